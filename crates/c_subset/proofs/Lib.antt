@@ -1,0 +1,12 @@
+pub mod ByRules
+pub mod Bytes
+pub mod Digits
+pub mod Ends
+pub mod Lexing
+pub mod Once
+mod Rows
+pub mod Seeing
+pub mod Single
+pub mod ToRules
+pub mod Views
+pub mod Words

@@ -1,0 +1,55 @@
+-- The programs of the two example texts keep the rules.
+use Rattle.std.proofs.Common.{[], ◌∷◌, refl, arith, lit<}
+use Rattle.std.specs.List.{All}
+use Rattle.std.proofs.lemmas.List.Elements.{All-nil, All-cons}
+use Rattle.dt_values.specs.Names.{IsName}
+use Rattle.c_subset.specs.Programs.{Name}
+use Rattle.c_subset.specs.Keeps.{PatternNamed, ExtractionNamed, AllDiffer, KeepsRules}
+use Rattle.c_subset.specs.Row.{row_two_program, empty_program}
+
+pub none_differ : AllDiffer []
+none_differ i j d h k = absurd (omega (arith, k))
+
+pub one_differs : (x : Name) → AllDiffer (x ∷ [])
+one_differs x i j d h k = absurd (omega (arith, k, h))
+
+one : {X : Type 0} (P : X → Type 0) (x : X) → P x → All P (x ∷ [])
+one P x h = All-cons P x [] h (All-nil P)
+
+pub empty_keeps : KeepsRules empty_program
+empty_keeps = record {
+  sets_named = All-nil IsName;
+  sets_differ = none_differ;
+  prefix_with_patterns = ((λ h. cc), (λ h. absurd (h refl)));
+  prefix_named = tt;
+  patterns_named = All-nil PatternNamed;
+  patterns_differ = none_differ;
+  extracts_named = All-nil ExtractionNamed;
+  formats_differ = none_differ;
+  decoder_named = refl;
+  union_sets_named = All-nil IsName;
+  union_sets_differ = none_differ;
+  union_with_patterns = λ e. refl;
+  body_named = tt;
+  body_below = tt;
+  calls_with_patterns = λ e. tt;
+}
+
+pub row_two_keeps : KeepsRules row_two_program
+row_two_keeps = record {
+  sets_named = one IsName _ refl;
+  sets_differ = one_differs _;
+  prefix_with_patterns = ((λ h e. cc), (λ h. refl));
+  prefix_named = refl;
+  patterns_named = one PatternNamed _ (record { name = refl; set = refl });
+  patterns_differ = one_differs _;
+  extracts_named = one ExtractionNamed _ (record { format = refl; set = refl });
+  formats_differ = one_differs _;
+  decoder_named = refl;
+  union_sets_named = one IsName _ refl;
+  union_sets_differ = one_differs _;
+  union_with_patterns = λ e. cc;
+  body_named = (((refl, refl), ((refl, refl), tt)), tt);
+  body_below = ((lit< tt, lit< tt, (tt, (tt, tt))), tt);
+  calls_with_patterns = λ e. cc;
+}

@@ -1,0 +1,170 @@
+-- Programs of the C subset, and how they are spelled in tokens (the C subset, docs/C_SUBSET.md).
+use Rattle.std.specs.Prelude.{ℕ, zero, suc, ◌/◌, ◌%◌, Bool, true, false, List, [], ◌∷◌, ◌++◌, Option, Some, None, flat_map, codes}
+use Rattle.std.specs.Fmt.{digit_glyph}
+use Rattle.dt_values.specs.declared.width.Width.{Width}
+use Rattle.dt_values.specs.declared.width.Width.TheVariants.{W16, W32, W64}
+use Rattle.dt_values.specs.Widths.{width_bits}
+use Rattle.c_subset.specs.Tokens.{Token, word, mark, double_equals}
+
+-- the bytes of a name
+abbrev pub Name : Type 0
+Name = List ℕ
+
+-- a statement of the decoder, and a list of them
+mutual
+  pub data Stmt : Type 0 where
+    on_mask : ℕ → ℕ → Stmts → Stmt
+    extract : Name → Name → Stmt
+    call : Name → Name → Stmt
+
+  pub data Stmts : Type 0 where
+    done : Stmts
+    then : Stmt → Stmts → Stmts
+
+-- a pattern and its argument set
+pub record Pattern : Type 0 where
+  pub name : Name
+  pub set : Name
+
+-- a format that is extracted, and its argument set
+pub record Extraction : Type 0 where
+  pub format : Name
+  pub set : Name
+
+-- what stands before the patterns' names, and whether their prototypes are static
+pub record Prefix : Type 0 where
+  pub name : Name
+  pub is_static : Bool
+
+pub record Program : Type 0 where
+  pub width : Width
+  pub sets : List Name
+  pub prefix : Option Prefix
+  pub patterns : List Pattern
+  pub extracts : List Extraction
+  pub decoder : Name
+  pub decoder_static : Bool
+  pub union_sets : List Name
+  pub body : Stmts
+
+-- the last k hexadecimal digits of n, in lower case
+unfoldable pub hex : ℕ → ℕ → List ℕ
+hex zero n = []
+hex (suc k) n = hex k (n / 16) ++ digit_glyph false (n % 16) ∷ []
+
+-- four bits a digit
+abbrev pub hex_length : Width → ℕ
+hex_length w = width_bits w / 4
+
+abbrev pub hex_word : Width → ℕ → Token
+hex_word w n = word (codes "0x" ++ hex (hex_length w) n)
+
+-- the unsigned type of a word (C17, 7.20.1.1)
+abbrev pub word_type : Width → List ℕ
+word_type W16 = codes "uint16_t"
+word_type W32 = codes "uint32_t"
+word_type W64 = codes "uint64_t"
+
+abbrev pub arg_ : Name → Token
+arg_ s = word (codes "arg_" ++ s)
+
+abbrev pub f_ : Name → Token
+f_ s = word (codes "f_" ++ s)
+
+abbrev pub extract_name : Name → Name → Token
+extract_name decoder format = word (decoder ++ codes "_extract_" ++ format)
+
+abbrev pub pattern_name : Name → Name → Token
+pattern_name prefix name = word (prefix ++ codes "_" ++ name)
+
+abbrev pub static_spelled : Bool → List Token
+static_spelled true = word (codes "static") ∷ []
+static_spelled false = []
+
+-- (DisasContext *ctx,
+abbrev pub first_parameter : List Token → List Token
+first_parameter rest = mark 40 ∷ word (codes "DisasContext") ∷ mark 42 ∷ word (codes "ctx") ∷ mark 44 ∷ rest
+
+-- typedef struct { } arg_S;
+abbrev pub set_spelled : Name → List Token
+set_spelled s = word (codes "typedef") ∷ word (codes "struct") ∷ mark 123 ∷ mark 125 ∷ arg_ s ∷ mark 59 ∷ []
+
+-- bool P_NAME(DisasContext *ctx, arg_NAME *a);
+abbrev pub prototype_spelled : Name → Name → List Token
+prototype_spelled prefix name = word (codes "bool") ∷ pattern_name prefix name ∷ first_parameter (arg_ name ∷ mark 42 ∷ word (codes "a") ∷ mark 41 ∷ mark 59 ∷ [])
+
+-- typedef arg_S arg_NAME; and the prototype, static or not
+abbrev pub pattern_spelled : Prefix → Pattern → List Token
+pattern_spelled prefix p =
+    (word (codes "typedef") ∷ arg_ p.set ∷ arg_ p.name ∷ mark 59 ∷ [])
+    ++ (static_spelled prefix.is_static ++ prototype_spelled prefix.name p.name)
+
+-- static void F_extract_X(DisasContext *ctx, arg_S *a, uintW_t insn) { }
+abbrev pub extract_spelled : Width → Name → Extraction → List Token
+extract_spelled w decoder e =
+    word (codes "static") ∷ word (codes "void") ∷ extract_name decoder e.format ∷ first_parameter (arg_ e.set ∷ mark 42 ∷ word (codes "a") ∷ mark 44 ∷ word (word_type w) ∷ word (codes "insn") ∷ mark 41 ∷ mark 123 ∷ mark 125 ∷ [])
+
+-- &u.f_S
+abbrev pub live_set : Name → List Token → List Token
+live_set s rest = mark 38 ∷ word (codes "u") ∷ mark 46 ∷ f_ s ∷ rest
+
+-- if ((insn & M) == V) {
+abbrev pub if_spelled : Width → ℕ → ℕ → List Token
+if_spelled w m v = word (codes "if") ∷ mark 40 ∷ mark 40 ∷ word (codes "insn") ∷ mark 38 ∷ hex_word w m ∷ mark 41 ∷ double_equals ∷ hex_word w v ∷ mark 41 ∷ mark 123 ∷ []
+
+-- F_extract_X(ctx, &u.f_S, insn);
+abbrev pub extract_call_spelled : Name → Name → Name → List Token
+extract_call_spelled decoder x s = extract_name decoder x ∷ mark 40 ∷ word (codes "ctx") ∷ mark 44 ∷ live_set s (mark 44 ∷ word (codes "insn") ∷ mark 41 ∷ mark 59 ∷ [])
+
+-- if (P_NAME(ctx, &u.f_S)) return true;
+abbrev pub call_spelled : Name → Name → Name → List Token
+call_spelled prefix n s = word (codes "if") ∷ mark 40 ∷ pattern_name prefix n ∷ mark 40 ∷ word (codes "ctx") ∷ mark 44 ∷ live_set s (mark 41 ∷ mark 41 ∷ word (codes "return") ∷ word (codes "true") ∷ mark 59 ∷ [])
+
+-- statements, of the decoder and the prefix with these names
+abbrev mutual
+  pub spelled : Width → Name → Name → Stmt → List Token
+  spelled w d p (on_mask m v ss) = if_spelled w m v ++ (all_spelled w d p ss ++ mark 125 ∷ [])
+  spelled w d p (extract x s) = extract_call_spelled d x s
+  spelled w d p (call n s) = call_spelled p n s
+
+  pub all_spelled : Width → Name → Name → Stmts → List Token
+  all_spelled w d p done = []
+  all_spelled w d p (then s ss) = spelled w d p s ++ all_spelled w d p ss
+
+-- arg_S f_S;
+abbrev pub union_set_spelled : Name → List Token
+union_set_spelled s = arg_ s ∷ f_ s ∷ mark 59 ∷ []
+
+-- union { .. } u; where there is a pattern
+abbrev pub union_spelled : List Pattern → List Name → List Token
+union_spelled [] sets = []
+union_spelled (p ∷ ps) sets = (word (codes "union") ∷ mark 123 ∷ []) ++ (flat_map union_set_spelled sets ++ (mark 125 ∷ word (codes "u") ∷ mark 59 ∷ []))
+
+-- static bool F(DisasContext *ctx, uintW_t insn) {
+abbrev pub decoder_head_spelled : Width → Name → Bool → List Token
+decoder_head_spelled w decoder is_static =
+    static_spelled is_static
+    ++ (word (codes "bool") ∷ word decoder ∷ first_parameter (word (word_type w) ∷ word (codes "insn") ∷ mark 41 ∷ mark 123 ∷ []))
+
+-- return false; }
+abbrev pub decoder_end_spelled : List Token
+decoder_end_spelled = word (codes "return") ∷ word (codes "false") ∷ mark 59 ∷ mark 125 ∷ []
+
+-- The rules give a program with patterns a prefix. Without one nothing is spelled by it.
+abbrev pub prefix_of : Option Prefix → Prefix
+prefix_of None = record { name = []; is_static = false }
+prefix_of (Some prefix) = prefix
+
+abbrev pub decoder_spelled : Program → List Token
+decoder_spelled p =
+    decoder_head_spelled p.width p.decoder p.decoder_static
+    ++ (union_spelled p.patterns p.union_sets
+    ++ (all_spelled p.width p.decoder (prefix_of p.prefix).name p.body
+    ++ decoder_end_spelled))
+
+unfoldable pub spelling : Program → List Token
+spelling p =
+    flat_map set_spelled p.sets
+    ++ (flat_map (pattern_spelled (prefix_of p.prefix)) p.patterns
+    ++ (flat_map (extract_spelled p.width p.decoder) p.extracts
+    ++ decoder_spelled p))

@@ -1,0 +1,53 @@
+-- Two texts with their programs, and texts with their tokens (the C subset, docs/C_SUBSET.md).
+use Rattle.std.specs.Prelude.{◌≡◌, ℕ, true, List, [], ◌∷◌, codes, Some, None}
+use Rattle.dt_values.specs.declared.width.Width.TheVariants.{W32}
+use Rattle.c_subset.specs.Tokens.{word, mark, double_equals, arrow, tokens_of}
+use Rattle.c_subset.specs.Programs.{on_mask, extract, call, done, then, Program}
+use Rattle.c_subset.specs.Spells.{Spells}
+
+-- one pattern, `nop`, with all bits 0
+abbrev pub row_two_program : Program
+row_two_program = record {
+  width = W32;
+  sets = codes "decode0" ∷ [];
+  prefix = Some (record { name = codes "trans"; is_static = true });
+  patterns = record { name = codes "nop"; set = codes "decode0" } ∷ [];
+  extracts = record { format = codes "decode_Fmt_0"; set = codes "decode0" } ∷ [];
+  decoder = codes "decode";
+  decoder_static = true;
+  union_sets = codes "decode0" ∷ [];
+  body = then (on_mask 0xffffffff 0 (then (extract (codes "decode_Fmt_0") (codes "decode0")) (then (call (codes "nop") (codes "decode0")) done))) done;
+}
+
+abbrev pub row_two_text : List ℕ
+row_two_text = codes "/* Made from pattern files. */\n\ntypedef struct {\n} arg_decode0;\n\ntypedef arg_decode0 arg_nop;\nstatic bool trans_nop(DisasContext *ctx, arg_nop *a);\n\nstatic void decode_extract_decode_Fmt_0(DisasContext *ctx, arg_decode0 *a, uint32_t insn)\n{\n}\n\nstatic bool decode(DisasContext *ctx, uint32_t insn)\n{\n    union {\n        arg_decode0 f_decode0;\n    } u;\n\n    if ((insn & 0xffffffff) == 0x00000000) {\n        /* 1:1 */\n        decode_extract_decode_Fmt_0(ctx, &u.f_decode0, insn);\n        if (trans_nop(ctx, &u.f_decode0)) return true;\n    }\n    return false;\n}\n"
+
+-- no pattern at all
+abbrev pub empty_program : Program
+empty_program = record {
+  width = W32;
+  sets = [];
+  prefix = None;
+  patterns = [];
+  extracts = [];
+  decoder = codes "decode";
+  decoder_static = true;
+  union_sets = [];
+  body = done;
+}
+
+abbrev pub empty_text : List ℕ
+empty_text = codes "/* Made from pattern files. */\n\nstatic bool decode(DisasContext *ctx, uint32_t insn)\n{\n    return false;\n}\n"
+
+abbrev pub RowTwo : Type 0
+RowTwo = Spells row_two_text row_two_program
+
+abbrev pub Empty : Type 0
+Empty = Spells empty_text empty_program
+
+pub record TokenExamples : Type 0 where
+  pub all_kinds : tokens_of (codes "a/* x **/b==c->d= ===/***/-\t1_Z") ≡ Some (word (codes "a") ∷ word (codes "b") ∷ double_equals ∷ word (codes "c") ∷ arrow ∷ word (codes "d") ∷ mark 61 ∷ double_equals ∷ mark 61 ∷ mark 45 ∷ word (codes "1_Z") ∷ [])
+  pub lone_slash : tokens_of (codes "a / b") ≡ None
+  pub open_comment : tokens_of (codes "a /* b") ≡ None
+  pub shortest_comment : tokens_of (codes "/*/ a") ≡ None
+  pub lone_above : tokens_of (codes "a > b") ≡ None

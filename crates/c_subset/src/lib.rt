@@ -1,0 +1,10 @@
+//! The C subset: programs, and the texts that spell them.
+#![tactic(auto)]
+
+pub mod laws;
+pub mod program;
+
+pub use program::{Body, Extract, Extracts, Names, Patterns, Program, Stmt};
+
+#[cfg(test)]
+mod tests;

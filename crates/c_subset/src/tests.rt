@@ -1,0 +1,48 @@
+//! Builds the program of one pattern by hand, and reads it back.
+
+use crate::{Body, Extract, Extracts, Names, Patterns, Program, Stmt};
+use dt_values::{Name, Width};
+use std::alloc::Global;
+use std::test::Fail;
+
+fn name(bytes: &[u8]) -> Result<Name, Fail> {
+    let name = Name::from_bytes(bytes).ok_or("a name")?;
+    Ok(name)
+}
+
+fn one_pattern(alloc: Global) -> Result<Program, Fail> {
+    let set = name(b"decode0")?;
+    let format = name(b"decode_Fmt_0")?;
+    let pattern = name(b"nop")?;
+    let inner = vec![in alloc; Stmt::Extract { format, set }, Stmt::Call { pattern, set }]?;
+    Ok(Program {
+        width: Width::W32,
+        sets: Names::of(vec![in alloc; set]?),
+        prefix: Some((name(b"trans")?, true)),
+        patterns: Patterns::of(vec![in alloc; (pattern, set)]?),
+        extracts: Extracts::of(vec![in alloc; Extract { format, set }]?),
+        decoder: name(b"decode")?,
+        decoder_static: true,
+        union_sets: Names::of(vec![in alloc; set]?),
+        body: Body::of(vec![in alloc; Stmt::If(0xffff_ffff, 0, inner)]?),
+    })
+}
+
+#[test]
+fn a_program_holds_its_parts(rt: HostRuntime) -> Result<(), Fail> {
+    let set = name(b"decode0")?;
+    let format = name(b"decode_Fmt_0")?;
+    let program = one_pattern(rt.alloc())?;
+    assert_eq!(rt; program.sets.items(), [set].as_slice());
+    assert_eq!(rt; program.patterns.items(), [(name(b"nop")?, set)].as_slice());
+    assert_eq!(rt;
+        program.extracts.items(),
+        [Extract { format, set }].as_slice()
+    );
+    assert_eq!(rt; program.union_sets.items(), [set].as_slice());
+    let Some(Stmt::If(mask, value, inner)) = program.body.items().first() else {
+        return Err("an if".into());
+    };
+    assert_eq!(rt; (*mask, *value, inner.len()), (0xffff_ffff, 0, 2));
+    Ok(())
+}

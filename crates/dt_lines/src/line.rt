@@ -1,0 +1,53 @@
+//! A logical line, and where its tokens lie in the file.
+
+ghost use Rattle.std.specs.Prelude.{◌≡◌};
+
+use std::marker::Model;
+
+/// A place in a file: the bytes from `start` up to `end`, counted from 0.
+#[derive(Clone, Copy, Debug, PartialEq, Eq)]
+pub struct Span {
+    pub start: u32,
+    pub end: u32,
+}
+
+/// The tokens of a line, as their places in the file, in order.
+#[derive(Debug, Drop)]
+pub struct Tokens {
+    items: Vec<Span>,
+}
+
+impl Model for Tokens {
+    ghost use Rattle.std.specs.Prelude.{List};
+    ghost use Rattle.dt_lines.specs.declared.line.Span.{Span};
+
+    ghost Value = { List Span };
+
+    ghost view = { λ s. s.items.items };
+}
+
+impl Tokens {
+    /// These tokens.
+    pub fn of(items: Vec<Span>) -> Tokens
+        ensures { result ≡ items.items }
+    {
+        Tokens { items }
+    }
+
+    /// The tokens' places.
+    pub fn items(&self) -> &[Span]
+        ensures { result.now ≡ self.now }
+    {
+        self.items.as_slice()
+    }
+}
+
+/// A line that has tokens: the place of its file among all files, from 0, its number in the file, from 1,
+/// the column of its first token, from 0, and its tokens.
+#[derive(Debug, Drop)]
+pub struct Logical {
+    pub file: u16,
+    pub line: u32,
+    pub indent: u32,
+    pub tokens: Tokens,
+}

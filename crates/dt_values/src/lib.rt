@@ -1,0 +1,13 @@
+//! Widths, names and C types: the values that every layer speaks of.
+#![tactic(auto)]
+
+pub mod ctype;
+pub mod name;
+pub mod width;
+
+pub use ctype::{CType, Member};
+pub use name::Name;
+pub use width::Width;
+
+#[cfg(test)]
+mod tests;
