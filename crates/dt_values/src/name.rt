@@ -10,8 +10,10 @@ ghost use Rattle.std.specs.Hash as fed;
 ghost use Rattle.std.proofs.Common.{rules};
 ghost use Rattle.dt_values.specs.Names.{IsName, is_name, is_name_byte, padded};
 
+use std::fmt;
 use std::hash::{Hash, Hasher};
 use std::marker::Model;
+use std::str;
 
 /// The most bytes that a name has.
 pub const LONGEST_NAME: usize = 128;
@@ -58,6 +60,24 @@ impl Name {
         ensures name { IsName result.now }
     {
         &self.bytes[..self.len as usize]
+    }
+
+    /// The name as text.
+    #[tactic(auto, using(crate::proofs::NameText::name_is_text))]
+    pub fn as_str(&self) -> &str
+        ensures { result.now ≡ self.now }
+    {
+        str::from_utf8(self.bytes()).unwrap()
+    }
+}
+
+impl fmt::Display for Name {
+    ghost use Rattle.std.specs.Prelude.{Some};
+
+    ghost output = { λ name. Some name };
+
+    fn fmt<W: fmt::Write>(&self, f: &mut fmt::Formatter<W>) -> fmt::Result {
+        f.write_str(self.as_str())
     }
 }
 

@@ -1,0 +1,108 @@
+-- The patterns of a flat list are sound.
+use Rattle.std.proofs.Common.{◌≡◌, ℕ, zero, suc, ◌+◌, ◌*◌, ◌<◌, ◌≤◌, ◌^◌, ◌==◌, ◌&&◌, ◌||◌, List, [], ◌∷◌, length, Bool, true, false, cond, Option, Some, None, refl, ap, ◌∙◌, arith, subst, bit_and}
+use Rattle.std.specs.Prelude.{IsTrue, IfSome, if◌then◌else◌}
+use Rattle.std.specs.List.{All, slice_split, onto_first, cons_option}
+use Rattle.std.proofs.Math.Nat.{two-pow-succ}
+use Rattle.std.proofs.lemmas.Nat.{and_block}
+use Rattle.std.proofs.lemmas.Bool.Decides.{nat_tests}
+use Rattle.std.proofs.lemmas.List.Elements.{All-head, All-tail, All-nil, All-cons, All-append}
+use Rattle.std.proofs.lemmas.List.Splits.{length-slice_split}
+use Rattle.dt_values.specs.Names.{is_name}
+use Rattle.dt_lines.specs.Lines.{Line, is_newline, without_empty_end, physical_lines, indentation, tokens, line_of, lines_from, logical_lines}
+use Rattle.c_subset.proofs.Bytes.{both_true}
+use Rattle.dt_tool.specs.Patterns.{Pattern, is_bit, is_bits, fixed_digit, bit_digit, number_of, pattern_in, pattern_of, patterns_of, flat_list}
+use Rattle.dt_tool.specs.Sound.{IsSound, AreSound}
+
+-- a number by digits of which none is above 1
+one_more_digit : (d r p q : ℕ) → d ≤ 1 → r < p → q ≡ p + p → d * p + r < q
+one_more_digit zero r p q h k e = omega arith
+one_more_digit (suc zero) r p q h k e = omega arith
+one_more_digit (suc (suc d)) r p q h k e = absurd (omega arith)
+
+number_below : (digit : ℕ → ℕ) → ((b : ℕ) → digit b ≤ 1) → (bs : List ℕ) → number_of digit bs < 2 ^ length bs
+number_below digit h [] = omega arith
+number_below digit h (b ∷ bs) = one_more_digit (digit b) (number_of digit bs) (2 ^ length bs) (2 ^ length (b ∷ bs)) (h b) (number_below digit h bs) (two-pow-succ (length bs))
+
+choice_below : (test : Bool) → (if test then 1 else 0) ≤ 1
+choice_below true = omega arith
+choice_below false = omega arith
+
+-- the bits are under the mask, digit by digit
+choice_under : (first second : Bool) → bit_and (if second then 1 else 0) (if first || second then 1 else 0) ≡ (if second then 1 else 0)
+choice_under true true = refl
+choice_under true false = refl
+choice_under false true = refl
+choice_under false false = refl
+
+number_under : (bs : List ℕ) → bit_and (number_of bit_digit bs) (number_of fixed_digit bs) ≡ number_of bit_digit bs
+number_under [] = refl
+number_under (b ∷ bs) =
+    and_block (length bs) (bit_digit b) (fixed_digit b) (number_of bit_digit bs) (number_of fixed_digit bs)
+    (number_below bit_digit (λ c. choice_below (c == 49)) bs) (number_below fixed_digit (λ c. choice_below (is_bit c)) bs)
+    ∙ ap (λ d. d * 2 ^ length bs + bit_and (number_of bit_digit bs) (number_of fixed_digit bs)) (choice_under (b == 48) (b == 49))
+    ∙ ap (λ r. bit_digit b * 2 ^ length bs + r) (number_under bs)
+
+has_32 : (n : ℕ) → IsTrue (n == 32) → n ≡ 32
+has_32 n h = grind (arith, nat_tests)
+
+-- the pattern of a name and 32 bits
+sound_of : (number : ℕ) (name token : List ℕ) → number < 2 ^ 32 → IsTrue (is_name name && is_bits token) → IsSound (record { name = name; file = 0; line = number; count = length token; mask = number_of fixed_digit token; bits = number_of bit_digit token })
+sound_of number name token h is =
+    let both = both_true (is_name name) (is_bits token) is in
+    let long : length token ≡ 32 = has_32 (length token) (both_true _ _ both.1).0 in
+    record {
+      named = both.0;
+      mask_below = subst (λ n. number_of fixed_digit token < 2 ^ n) long (number_below fixed_digit (λ c. choice_below (is_bit c)) token);
+      bits_below = subst (λ n. number_of bit_digit token < 2 ^ n) long (number_below bit_digit (λ c. choice_below (c == 49)) token);
+      bits_in_mask = number_under token;
+      file_below = omega arith;
+      line_below = h;
+    }
+
+where_true : (test : Bool) (p : Pattern) → (IsTrue test → IsSound p) → IfSome (if test then Some p else None) IsSound
+where_true true p h = h refl
+where_true false p h = tt
+
+sound_in : (number : ℕ) (tokens : List (List ℕ)) → number < 2 ^ 32 → IfSome (pattern_in number tokens) IsSound
+sound_in number [] h = tt
+sound_in number (name ∷ []) h = tt
+sound_in number (name ∷ token ∷ []) h = where_true (is_name name && is_bits token) _ (sound_of number name token h)
+sound_in number (name ∷ token ∷ more ∷ rest) h = tt
+
+not_indented : (test : Bool) (o : Option Pattern) → IfSome o IsSound → IfSome (if test then o else None) IsSound
+not_indented true o h = h
+not_indented false o h = tt
+
+kept : (o : Option Pattern) (ps : List Pattern) → IfSome o IsSound → AreSound ps → AreSound (cons_option o ps)
+kept None ps h k = k
+kept (Some p) ps h k = All-cons IsSound p ps h k
+
+lines_sound : (lines : List Line) → All (λ l. l.line < 2 ^ 32) lines → AreSound (patterns_of lines)
+lines_sound [] h = All-nil IsSound
+lines_sound (l ∷ lines) h = kept (pattern_of l) (patterns_of lines) (not_indented (l.indent == 0) _ (sound_in l.line l.tokens (All-head (λ l. l.line < 2 ^ 32) l lines h))) (lines_sound lines (All-tail (λ l. l.line < 2 ^ 32) l lines h))
+
+-- the lines' numbers
+line_below : (number indent : ℕ) (tokens : List (List ℕ)) → number < 2 ^ 32 → All (λ l. l.line < 2 ^ 32) (line_of number indent tokens)
+line_below number indent [] h = All-nil (λ l. l.line < 2 ^ 32)
+line_below number indent (token ∷ more) h = All-cons (λ l. l.line < 2 ^ 32) _ [] h (All-nil (λ l. l.line < 2 ^ 32))
+
+lines_below : (number : ℕ) (texts : List (List ℕ)) → number + length texts ≤ 2 ^ 32 → All (λ l. l.line < 2 ^ 32) (lines_from number texts)
+lines_below number [] h = All-nil (λ l. l.line < 2 ^ 32)
+lines_below number (text ∷ texts) h = All-append (λ l. l.line < 2 ^ 32) _ _ (line_below number (indentation text) (tokens text) (omega arith)) (lines_below (number + 1) texts (omega arith))
+
+-- no more physical lines than bytes
+one_byte_more : (test : Bool) (b : ℕ) (pieces : List (List ℕ)) (n : ℕ) → 0 < length pieces → length (without_empty_end pieces) ≤ n → length (without_empty_end (cond test ([] ∷ pieces) (onto_first b pieces))) ≤ n + 1
+one_byte_more test b [] n h k = absurd (omega arith)
+one_byte_more true b (piece ∷ pieces) n h k = omega arith
+one_byte_more false b (piece ∷ []) n h k = omega arith
+one_byte_more false b (piece ∷ next ∷ pieces) n h k = omega arith
+
+length-physical_lines : (bytes : List ℕ) → length (physical_lines bytes) ≤ length bytes
+length-physical_lines [] = omega arith
+length-physical_lines (b ∷ bs) =
+    let some : 0 < length (slice_split is_newline bs) = omega (arith, length-slice_split is_newline bs) in
+    let more = one_byte_more (is_newline b) b (slice_split is_newline bs) (length bs) some (length-physical_lines bs) in
+    omega (arith, more)
+
+pub flat_list_sound : (bytes : List ℕ) → length bytes < 2 ^ 32 → AreSound (flat_list bytes)
+flat_list_sound bytes h = lines_sound (logical_lines bytes) (lines_below 1 (physical_lines bytes) (omega (arith, length-physical_lines bytes)))

@@ -1,0 +1,57 @@
+//! Makes a C decoder of a pattern file.
+#![tactic(auto)]
+
+pub mod generate;
+pub mod laws;
+pub mod messages;
+pub mod overlap;
+pub mod pattern;
+pub mod reader;
+pub mod status;
+#[cfg(test)]
+mod tests;
+pub mod text;
+pub mod tool;
+pub mod words;
+
+use crate::status::{Outcome, Status};
+use crate::tool::tool;
+use dt_io::{RealFolder, RealSink, Sink, write_all};
+use std::alloc::AllocError;
+use std::io::ErrorKind;
+use std::process::ExitCode;
+use std::{env, io};
+
+/// The exit status where the system doesn't hand over the words.
+const NO_WORDS: u8 = 6;
+
+fn main(rt: HostRuntime) -> ExitCode {
+    let mut err = RealSink::new(rt.stderr());
+    let args = match env::args(&rt) {
+        Ok(args) => args,
+        Err(error) if error.kind() == ErrorKind::OutOfMemory => return no_memory(&mut err),
+        Err(_) => {
+            let _ = write_all(&mut err, b"error: no words\n");
+            return ExitCode::from(NO_WORDS);
+        }
+    };
+    let words: Result<Vec<String>, AllocError> = args.skip(1).collect(rt.alloc());
+    let Ok(words) = words else {
+        return no_memory(&mut err);
+    };
+    let mut folder = RealFolder::new(&rt);
+    let mut out = RealSink::new(io::writer(&rt));
+    let status = tool(
+        rt.alloc(),
+        words.as_slice(),
+        &mut folder,
+        &mut out,
+        &mut err,
+    );
+    ExitCode::from(status.number)
+}
+
+fn no_memory<E: Sink>(err: &mut E) -> ExitCode {
+    let _ = write_all(err, messages::NO_MEMORY.as_bytes());
+    ExitCode::from(Status::of(Outcome::NoMemory).number)
+}

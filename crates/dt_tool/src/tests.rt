@@ -1,0 +1,379 @@
+//! Runs of the whole command over folders and sinks in memory. The expected texts are the worked
+//! examples of docs/C_SUBSET.md and docs/COMMANDS.md.
+ghost use Rattle.std.specs.Prelude.{◌≤◌, IfOk};
+
+use crate::status::{Outcome, Status};
+use crate::tool::tool;
+use dt_io::{MemoryFolder, MemorySink};
+use std::alloc::{AllocError, Global};
+use std::fmt::Write;
+use std::process::Abort;
+use std::test::Fail;
+
+const EMPTY_TEXT: &str = "/* Made from pattern files. */
+
+static bool decode(DisasContext *ctx, uint32_t insn)
+{
+    return false;
+}
+";
+
+const NOP_LINE: &str = "nop 00000000000000000000000000000000\n";
+
+const NOP_TEXT: &str = "/* Made from pattern files. */
+
+typedef struct {
+} arg_decode0;
+
+typedef arg_decode0 arg_nop;
+static bool trans_nop(DisasContext *ctx, arg_nop *a);
+
+static void decode_extract_decode_Fmt_0(DisasContext *ctx, arg_decode0 *a, uint32_t insn)
+{
+}
+
+static bool decode(DisasContext *ctx, uint32_t insn)
+{
+    union {
+        arg_decode0 f_decode0;
+    } u;
+
+    if ((insn & 0xffffffff) == 0x00000000) {
+        /* 1:1 */
+        decode_extract_decode_Fmt_0(ctx, &u.f_decode0, insn);
+        if (trans_nop(ctx, &u.f_decode0)) return true;
+    }
+    return false;
+}
+";
+
+/// What fails in a run, by the numbers of the calls, from 1.
+#[derive(Clone, Copy)]
+struct Failing<'a> {
+    reads: &'a [u64],
+    writes: &'a [u64],
+    reports: &'a [u64],
+}
+
+const NOTHING_FAILS: Failing<'static> = Failing {
+    reads: &[],
+    writes: &[],
+    reports: &[],
+};
+
+/// What a run left.
+#[derive(Drop)]
+struct Ran {
+    status: Status,
+    folder: MemoryFolder,
+    out: MemorySink,
+    err: MemorySink,
+}
+
+fn words_of(alloc: Global, words: &[&str]) -> Result<Vec<String>, AllocError> {
+    let mut all = Vec::new(alloc);
+    for word in words {
+        all.push(String::from_str(alloc, word)?)?;
+    }
+    Ok(all)
+}
+
+/// A run over a folder that holds the one file `t`, with sinks that take `step` bytes a write.
+#[tactic(auto, using(dt_io::proofs::Distinct::distinct_one))]
+fn run(
+    alloc: Global,
+    words: &[&str],
+    text: &[u8],
+    step: usize,
+    failing: Failing,
+) -> Result<Ran, AllocError>
+    requires { 1 ≤ step }
+{
+    let files = [(String::from_str(alloc, "t")?, Vec::from_slice(alloc, text)?)];
+    let mut folder = MemoryFolder::new(alloc, &files, 4096, failing.reads)?;
+    let mut out = MemorySink::new(alloc, 8_000_000, step, failing.writes)?;
+    let mut err = MemorySink::new(alloc, 4096, step, failing.reports)?;
+    let words = words_of(alloc, words)?;
+    let status = tool(alloc, words.as_slice(), &mut folder, &mut out, &mut err);
+    Ok(Ran {
+        status,
+        folder,
+        out,
+        err,
+    })
+}
+
+/// `gen t` of this text ends so, writes and says these bytes, and leaves the file as it was.
+fn check_text(
+    rt: &(impl Abort + AllocGlobal),
+    text: &str,
+    outcome: Outcome,
+    out: &str,
+    err: &str,
+) -> Result<(), AllocError> {
+    let ran = run(
+        rt.alloc(),
+        &["gen", "t"],
+        text.as_bytes(),
+        16,
+        NOTHING_FAILS,
+    )?;
+    assert_eq!(rt; ran.status, Status::of(outcome), "for {text}");
+    assert_eq!(rt; ran.out.bytes(), out.as_bytes(), "for {text}");
+    assert_eq!(rt; ran.err.bytes(), err.as_bytes(), "for {text}");
+    assert!(rt; ran.folder.file("t") == Some(text.as_bytes()));
+    Ok(())
+}
+
+#[test]
+fn files_give_their_text_or_their_first_refusal(rt: HostRuntime) -> Result<(), Fail> {
+    let table = [
+        ("", Outcome::Done, EMPTY_TEXT, ""),
+        ("\n \t\r\n\x0b\x0c", Outcome::Done, EMPTY_TEXT, ""),
+        (NOP_LINE, Outcome::Done, NOP_TEXT, ""),
+        ("\tnop", Outcome::Refused, "", "t:1: error: N2 not built\n"),
+        (
+            "a 000\n",
+            Outcome::Refused,
+            "",
+            "t:1: error: N2 not built\n",
+        ),
+        ("a 0.\n", Outcome::Refused, "", "t:1: error: N2 not built\n"),
+        (
+            "\n\n# a\nb\n",
+            Outcome::Refused,
+            "",
+            "t:3: error: N2 not built\n",
+        ),
+        (
+            "a 00000000000000000000000000000000\n\nb 00000000000000000000000000000000\n",
+            Outcome::Refused,
+            "",
+            "t:1: error: H2 overlapping: a\nt:3: note: H2 overlapping: b\n",
+        ),
+        (
+            "a 00000000000000000000000000000000\na 00000000000000000000000000000000 &x\n",
+            Outcome::Refused,
+            "",
+            "t:2: error: N2 not built\n",
+        ),
+    ];
+    for (text, outcome, out, err) in table {
+        check_text(&rt, text, outcome, out, err)?;
+    }
+    Ok(())
+}
+
+#[test]
+fn patterns_are_tried_in_the_order_of_the_file(rt: HostRuntime) -> Result<(), Fail> {
+    let text =
+        b"a 00000000000000000000000000000000\nb 00000000000000000000000000000001\n".as_slice();
+    let statements = b"    if ((insn & 0xffffffff) == 0x00000000) {
+        /* 1:1 */
+        decode_extract_decode_Fmt_0(ctx, &u.f_decode0, insn);
+        if (trans_a(ctx, &u.f_decode0)) return true;
+    }
+    if ((insn & 0xffffffff) == 0x00000001) {
+        /* 1:2 */
+        decode_extract_decode_Fmt_0(ctx, &u.f_decode0, insn);
+        if (trans_b(ctx, &u.f_decode0)) return true;
+    }
+    return false;
+}
+"
+        .as_slice();
+    let ran = run(rt.alloc(), &["gen", "t"], text, 16, NOTHING_FAILS)?;
+    assert_eq!(rt; ran.status, Status::of(Outcome::Done));
+    assert!(rt; ran.out.bytes().ends_with(statements));
+    Ok(())
+}
+
+#[test]
+fn a_name_of_two_patterns_has_one_prototype(rt: HostRuntime) -> Result<(), Fail> {
+    let text = b"b 00000000000000000000000000000010
+a 00000000000000000000000000000001
+b 00000000000000000000000000000000
+"
+        .as_slice();
+    let prototypes = "} arg_decode0;
+
+typedef arg_decode0 arg_b;
+static bool trans_b(DisasContext *ctx, arg_b *a);
+
+typedef arg_decode0 arg_a;
+static bool trans_a(DisasContext *ctx, arg_a *a);
+
+static void";
+    let ran = run(rt.alloc(), &["gen", "t"], text, 16, NOTHING_FAILS)?;
+    assert_eq!(rt; ran.status, Status::of(Outcome::Done));
+    let out = std::str::from_utf8(ran.out.bytes())?;
+    assert!(rt; out.contains(prototypes));
+    assert_eq!(rt; out.matches("static bool trans_b").count(), 1);
+    assert_eq!(rt; out.matches("if (trans_b").count(), 2);
+    Ok(())
+}
+
+#[test]
+fn other_words_are_a_usage(rt: HostRuntime) -> Result<(), Fail> {
+    let table: [&[&str]; 8] = [
+        &[],
+        &["gen"],
+        &["gen", "-"],
+        &["gen", "--test-for-error"],
+        &["gen", "t", "t"],
+        &["gen", "-w", "16", "t"],
+        &["Gen", "t"],
+        &["table", "t"],
+    ];
+    for words in table {
+        let ran = run(rt.alloc(), words, b"", 16, NOTHING_FAILS)?;
+        assert_eq!(rt; ran.status, Status::of(Outcome::Usage));
+        assert_eq!(rt; ran.status.number, 2);
+        assert_eq!(rt; ran.err.bytes(), b"usage: N1\n".as_slice());
+        assert_eq!(rt; ran.out.bytes(), b"".as_slice());
+    }
+    Ok(())
+}
+
+#[test]
+fn a_file_that_is_not_there_is_a_read_fault(rt: HostRuntime) -> Result<(), Fail> {
+    for file in ["s", ""] {
+        let ran = run(rt.alloc(), &["gen", file], b"", 16, NOTHING_FAILS)?;
+        let said = format!(in rt.alloc(); "error: cannot read {file}\n")?;
+        assert_eq!(rt; ran.status, Status::of(Outcome::ReadFault));
+        assert_eq!(rt; ran.status.number, 3);
+        assert_eq!(rt; ran.err.bytes(), said.as_bytes());
+        assert_eq!(rt; ran.out.bytes(), b"".as_slice());
+    }
+    Ok(())
+}
+
+#[test]
+fn a_file_over_its_limit_is_refused(rt: HostRuntime) -> Result<(), Fail> {
+    let table = [
+        (4_194_304, Outcome::Done, "", EMPTY_TEXT),
+        (
+            4_194_305,
+            Outcome::Refused,
+            "error: K0 file too large: t\n",
+            "",
+        ),
+    ];
+    for (len, outcome, said, written) in table {
+        let text = vec![in rt.alloc(); b'\n'; len]?;
+        let ran = run(
+            rt.alloc(),
+            &["gen", "t"],
+            text.as_slice(),
+            4096,
+            NOTHING_FAILS,
+        )?;
+        assert_eq!(rt; ran.status, Status::of(outcome));
+        assert_eq!(rt; ran.err.bytes(), said.as_bytes());
+        assert_eq!(rt; ran.out.bytes(), written.as_bytes());
+    }
+    Ok(())
+}
+
+#[test]
+fn a_sink_that_fails_holds_a_front_of_the_text(rt: HostRuntime) -> Result<(), Fail> {
+    let writes_fail = Failing {
+        writes: &[2],
+        ..NOTHING_FAILS
+    };
+    let ran = run(rt.alloc(), &["gen", "t"], b"", 16, writes_fail)?;
+    assert_eq!(rt; ran.status, Status::of(Outcome::WriteFault));
+    assert_eq!(rt; ran.status.number, 4);
+    assert_eq!(rt; ran.out.bytes(), b"/* Made from pat".as_slice());
+    assert_eq!(rt; ran.err.bytes(), b"error: cannot write\n".as_slice());
+    Ok(())
+}
+
+#[test]
+fn a_failure_of_standard_error_changes_no_status(rt: HostRuntime) -> Result<(), Fail> {
+    let reports_fail = Failing {
+        reports: &[2],
+        ..NOTHING_FAILS
+    };
+    let ran = run(rt.alloc(), &["gen", "t"], b"a\n", 16, reports_fail)?;
+    assert_eq!(rt; ran.status, Status::of(Outcome::Refused));
+    assert_eq!(rt; ran.err.bytes(), b"t:1: error: N2 n".as_slice());
+    Ok(())
+}
+
+/// Call number i fails, for i from 1 up to the first run that meets no failure.
+#[test]
+fn each_call_that_fails_has_its_outcome(rt: HostRuntime) -> Result<(), Fail> {
+    for call in 1..100 {
+        let failing = [call];
+        let reads_fail = Failing {
+            reads: &failing,
+            ..NOTHING_FAILS
+        };
+        let ran = run(
+            rt.alloc(),
+            &["gen", "t"],
+            NOP_LINE.as_bytes(),
+            16,
+            reads_fail,
+        )?;
+        if ran.status.outcome == Outcome::Done {
+            assert_eq!(rt; call, 4);
+            break;
+        }
+        assert_eq!(rt; ran.status, Status::of(Outcome::ReadFault));
+        assert_eq!(rt; ran.err.bytes(), b"error: cannot read t\n".as_slice());
+        assert_eq!(rt; ran.out.bytes(), b"".as_slice());
+    }
+    for call in 1..100 {
+        let failing = [call];
+        let writes_fail = Failing {
+            writes: &failing,
+            ..NOTHING_FAILS
+        };
+        let ran = run(
+            rt.alloc(),
+            &["gen", "t"],
+            NOP_LINE.as_bytes(),
+            16,
+            writes_fail,
+        )?;
+        let kept = (call as usize - 1) * 16;
+        if ran.status.outcome == Outcome::Done {
+            assert!(rt; kept >= NOP_TEXT.len());
+            break;
+        }
+        assert!(rt; kept < NOP_TEXT.len());
+        assert_eq!(rt; ran.status, Status::of(Outcome::WriteFault));
+        assert_eq!(rt; ran.out.bytes(), &NOP_TEXT.as_bytes()[..kept]);
+        assert_eq!(rt; ran.err.bytes(), b"error: cannot write\n".as_slice());
+    }
+    Ok(())
+}
+
+#[test]
+fn many_patterns_are_read_and_written_at_once(rt: HostRuntime) -> Result<(), Fail> {
+    let mut text = String::new(rt.alloc());
+    for word in 0..8192u32 {
+        write!(text, "p{word} {word:032b}\n")?;
+    }
+    let ran = run(
+        rt.alloc(),
+        &["gen", "t"],
+        text.as_bytes(),
+        4096,
+        NOTHING_FAILS,
+    )?;
+    assert_eq!(rt; ran.status, Status::of(Outcome::Done));
+    let last = b"    if ((insn & 0xffffffff) == 0x00001fff) {
+        /* 1:8192 */
+        decode_extract_decode_Fmt_0(ctx, &u.f_decode0, insn);
+        if (trans_p8191(ctx, &u.f_decode0)) return true;
+    }
+    return false;
+}
+"
+        .as_slice();
+    assert!(rt; ran.out.bytes().ends_with(last));
+    Ok(())
+}
