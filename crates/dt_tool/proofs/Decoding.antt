@@ -1,16 +1,11 @@
 -- The layout of a file's patterns decodes them.
-use Rattle.std.proofs.Common.{◌≡◌, ℕ, ◌<◌, ◌≤◌, ◌^◌, List, length, Option, None, Some, subst, sym, ap, ◌∙◌, arith, map}
-use Rattle.std.specs.Prelude.{Bool, IfSome, IsSomeAnd, All}
-use Rattle.std.proofs.lemmas.List.Elements.{All-weaker}
-use Rattle.dt_io.specs.Files.{Files}
-use Rattle.dt_io.specs.Bytes.{appended}
+use Rattle.std.proofs.Common.{◌≡◌, ℕ, ◌≤◌, List, length, subst, sym, ap, ◌∙◌, arith}
 use Rattle.dt_tool.specs.Patterns.{Pattern, flat_list}
-use Rattle.dt_tool.specs.Layout.{layout, chain_program}
-use Rattle.dt_tool.specs.Sound.{IsSound, AreSound}
+use Rattle.dt_tool.specs.Layout.{layout}
+use Rattle.dt_tool.specs.Sound.{AreSound}
 use Rattle.dt_tool.specs.Agrees.{AreUnderMasks}
 use Rattle.dt_tool.specs.Hosts.{script}
-use Rattle.dt_tool.specs.Decoders.{IsDecoder, AppendsDecoder}
-use Rattle.dt_tool.specs.Due.{input}
+use Rattle.dt_tool.specs.Decoders.{IsDecoder}
 use Rattle.dt_tool.proofs.Law.{layout_tokens}
 use Rattle.dt_tool.proofs.Rules.{keeps_rules}
 use Rattle.dt_tool.proofs.FlatLists.{flat_list_sound}

@@ -1,5 +1,5 @@
 -- What is said of overlapping patterns: the first, and one note more.
-use Rattle.std.proofs.Common.{◌≡◌, ℕ, ◌+◌, ◌<◌, List, [], ◌∷◌, ◌++◌, length, get_or, take, map, ap, sym, ◌∙◌, arith}
+use Rattle.std.proofs.Common.{◌≡◌, ℕ, ◌+◌, ◌<◌, List, [], ◌∷◌, ◌++◌, length, get_or, take, map, ap, sym, ◌∙◌}
 use Rattle.std.specs.Prelude.{flat_map, codes, All}
 use Rattle.std.proofs.lemmas.List.Elements.{All-same, All-head}
 use Rattle.dt_tool.specs.Messages as said

@@ -1,10 +1,8 @@
 -- The pattern of a line of a name and 32 bits.
-use Rattle.std.proofs.Common.{◌≡◌, ℕ, zero, suc, ◌+◌, ◌^◌, ◌<◌, ◌&&◌, Bool, true, false, cond, List, [], ◌∷◌, ◌++◌, length, get_or, drop, map, Option, Some, None, refl, ap, sym, ◌∙◌, arith, append_assoc}
-use Rattle.std.proofs.lemmas.List.{drop_more}
-use Rattle.dt_lines.specs.Lines.{Line}
+use Rattle.std.proofs.Common.{◌≡◌, ℕ, ◌+◌, ◌^◌, ◌&&◌, Bool, true, false, List, [], ◌∷◌, length, get_or, Option, Some, refl, ap, sym, ◌∙◌, arith}
 use Rattle.std.specs.List.{list_all}
 use Rattle.dt_values.specs.Names.{is_name}
-use Rattle.dt_tool.specs.Patterns.{Pattern, pattern_of, patterns_of, first_broken, is_bits, is_bit, number_of, bit_digit, fixed_digit}
+use Rattle.dt_tool.specs.Patterns.{Pattern, pattern_of, is_bits, is_bit, number_of, bit_digit, fixed_digit}
 use Rattle.std.proofs.lemmas.Bool.Decides.{nat_tests}
 use Rattle.std.specs.Prelude.{◌==◌}
 use Rattle.dt_tool.proofs.BinaryNumbers.{full_mask}

@@ -1,5 +1,5 @@
 -- What a write of a whole text tells.
-use Rattle.std.proofs.Common.{◌≡◌, ℕ, List, Option, length, refl, ap, sym, ◌∙◌, arith, inl, inr}
+use Rattle.std.proofs.Common.{◌≡◌, ℕ, List, Option, length, ap, sym, ◌∙◌, arith, inl, inr}
 use Rattle.std.specs.Prelude.{Result, Ok, Err, OnOk, OnErr}
 use Rattle.std.proofs.lemmas.List.{take_all}
 use Rattle.dt_io.specs.Bytes.{AppendsPart, appended}

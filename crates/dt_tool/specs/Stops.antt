@@ -1,5 +1,5 @@
 -- How what was made, or what stopped it, answers what is due.
-use Rattle.std.specs.Prelude.{ℕ, ◌≡◌, ◌≢◌, ◌<◌, ◌⊎◌, List, [], length, Option, Some, None, Result, Ok, Err, Vec, String}
+use Rattle.std.specs.Prelude.{ℕ, ◌≡◌, ◌≢◌, ◌<◌, ◌⊎◌, List, [], length, Option, Result, Ok, Err, Vec}
 use Rattle.std.specs.String.{string_bytes}
 use Rattle.dt_io.specs.Files.{Files, Held, NotHeld}
 use Rattle.dt_tool.specs.Due.{Due, usage, missing, refused, written, limit}

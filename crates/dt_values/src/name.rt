@@ -10,10 +10,9 @@ ghost use Rattle.std.specs.Hash as fed;
 ghost use Rattle.std.proofs.Common.{rules};
 ghost use Rattle.dt_values.specs.Names.{IsName, is_name, is_name_byte, padded};
 
-use std::fmt;
 use std::hash::{Hash, Hasher};
 use std::marker::Model;
-use std::str;
+use std::{fmt, str};
 
 /// The most bytes that a name has.
 pub const LONGEST_NAME: usize = 128;

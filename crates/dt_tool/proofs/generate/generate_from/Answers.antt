@@ -1,7 +1,6 @@
-use Rattle.std.proofs.Common.{length, map, ◌≡◌, ◌∙◌, ap, sym, arith}
+use Rattle.std.proofs.Common.{map, ◌∙◌, ap}
 use Rattle.std.proofs.lemmas.List.Elements.{All-same}
 use Rattle.dt_tool.specs.Knots.{IsWhole}
-use Rattle.dt_tool.specs.Patterns.{flat_list}
 use Rattle.dt_tool.specs.View.{pattern_seen}
 use Rattle.dt_tool.proofs.WholeLines.{flat_whole}
 use Rattle.dt_tool.proofs.Decoding.{text_decodes}

@@ -1,4 +1,4 @@
-use Rattle.std.proofs.Common.{◌≡◌, ◌∙◌, sym, ap, true, arith, rules, length, map, get_or, List, ℕ, ◌∷◌, []}
+use Rattle.std.proofs.Common.{◌≡◌, ◌∙◌, sym, ap, true, arith, rules, length, map, get_or, ◌∷◌, []}
 use Rattle.dt_values.specs.Names.{is_name}
 use Rattle.dt_tool.specs.Patterns.{is_bits}
 use Rattle.dt_lines.specs.Spans.{text_at}
