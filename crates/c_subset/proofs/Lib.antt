@@ -4,7 +4,7 @@ pub mod Digits
 pub mod Ends
 pub mod Lexing
 pub mod Once
-mod Rows
+mod ExampleRules
 pub mod Seeing
 pub mod Single
 pub mod ToRules

@@ -6,4 +6,4 @@ pub mod View
 pub mod Keeps
 pub mod Spells
 pub mod Pieces
-pub mod Row
+pub mod Examples

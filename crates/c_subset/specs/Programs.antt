@@ -6,6 +6,34 @@ use Rattle.dt_values.specs.declared.width.Width.TheVariants.{W16, W32, W64}
 use Rattle.dt_values.specs.Widths.{width_bits}
 use Rattle.c_subset.specs.Tokens.{Token, word, mark, double_equals}
 
+-- the single bytes that are spelled: ( ) { } ; , * & .
+abbrev pub open_round : Token
+open_round = mark 40
+
+abbrev pub close_round : Token
+close_round = mark 41
+
+abbrev pub open_brace : Token
+open_brace = mark 123
+
+abbrev pub close_brace : Token
+close_brace = mark 125
+
+abbrev pub semicolon : Token
+semicolon = mark 59
+
+abbrev pub comma : Token
+comma = mark 44
+
+abbrev pub asterisk : Token
+asterisk = mark 42
+
+abbrev pub ampersand : Token
+ampersand = mark 38
+
+abbrev pub dot : Token
+dot = mark 46
+
 -- the bytes of a name
 abbrev pub Name : Type 0
 Name = List ℕ
@@ -83,47 +111,47 @@ static_spelled false = []
 
 -- (DisasContext *ctx,
 abbrev pub first_parameter : List Token → List Token
-first_parameter rest = mark 40 ∷ word (codes "DisasContext") ∷ mark 42 ∷ word (codes "ctx") ∷ mark 44 ∷ rest
+first_parameter rest = open_round ∷ word (codes "DisasContext") ∷ asterisk ∷ word (codes "ctx") ∷ comma ∷ rest
 
 -- typedef struct { } arg_S;
 abbrev pub set_spelled : Name → List Token
-set_spelled s = word (codes "typedef") ∷ word (codes "struct") ∷ mark 123 ∷ mark 125 ∷ arg_ s ∷ mark 59 ∷ []
+set_spelled s = word (codes "typedef") ∷ word (codes "struct") ∷ open_brace ∷ close_brace ∷ arg_ s ∷ semicolon ∷ []
 
 -- bool P_NAME(DisasContext *ctx, arg_NAME *a);
 abbrev pub prototype_spelled : Name → Name → List Token
-prototype_spelled prefix name = word (codes "bool") ∷ pattern_name prefix name ∷ first_parameter (arg_ name ∷ mark 42 ∷ word (codes "a") ∷ mark 41 ∷ mark 59 ∷ [])
+prototype_spelled prefix name = word (codes "bool") ∷ pattern_name prefix name ∷ first_parameter (arg_ name ∷ asterisk ∷ word (codes "a") ∷ close_round ∷ semicolon ∷ [])
 
 -- typedef arg_S arg_NAME; and the prototype, static or not
 abbrev pub pattern_spelled : Prefix → Pattern → List Token
 pattern_spelled prefix p =
-    (word (codes "typedef") ∷ arg_ p.set ∷ arg_ p.name ∷ mark 59 ∷ [])
+    (word (codes "typedef") ∷ arg_ p.set ∷ arg_ p.name ∷ semicolon ∷ [])
     ++ (static_spelled prefix.is_static ++ prototype_spelled prefix.name p.name)
 
 -- static void F_extract_X(DisasContext *ctx, arg_S *a, uintW_t insn) { }
 abbrev pub extract_spelled : Width → Name → Extraction → List Token
 extract_spelled w decoder e =
-    word (codes "static") ∷ word (codes "void") ∷ extract_name decoder e.format ∷ first_parameter (arg_ e.set ∷ mark 42 ∷ word (codes "a") ∷ mark 44 ∷ word (word_type w) ∷ word (codes "insn") ∷ mark 41 ∷ mark 123 ∷ mark 125 ∷ [])
+    word (codes "static") ∷ word (codes "void") ∷ extract_name decoder e.format ∷ first_parameter (arg_ e.set ∷ asterisk ∷ word (codes "a") ∷ comma ∷ word (word_type w) ∷ word (codes "insn") ∷ close_round ∷ open_brace ∷ close_brace ∷ [])
 
 -- &u.f_S
 abbrev pub live_set : Name → List Token → List Token
-live_set s rest = mark 38 ∷ word (codes "u") ∷ mark 46 ∷ f_ s ∷ rest
+live_set s rest = ampersand ∷ word (codes "u") ∷ dot ∷ f_ s ∷ rest
 
 -- if ((insn & M) == V) {
 abbrev pub if_spelled : Width → ℕ → ℕ → List Token
-if_spelled w m v = word (codes "if") ∷ mark 40 ∷ mark 40 ∷ word (codes "insn") ∷ mark 38 ∷ hex_word w m ∷ mark 41 ∷ double_equals ∷ hex_word w v ∷ mark 41 ∷ mark 123 ∷ []
+if_spelled w m v = word (codes "if") ∷ open_round ∷ open_round ∷ word (codes "insn") ∷ ampersand ∷ hex_word w m ∷ close_round ∷ double_equals ∷ hex_word w v ∷ close_round ∷ open_brace ∷ []
 
 -- F_extract_X(ctx, &u.f_S, insn);
 abbrev pub extract_call_spelled : Name → Name → Name → List Token
-extract_call_spelled decoder x s = extract_name decoder x ∷ mark 40 ∷ word (codes "ctx") ∷ mark 44 ∷ live_set s (mark 44 ∷ word (codes "insn") ∷ mark 41 ∷ mark 59 ∷ [])
+extract_call_spelled decoder x s = extract_name decoder x ∷ open_round ∷ word (codes "ctx") ∷ comma ∷ live_set s (comma ∷ word (codes "insn") ∷ close_round ∷ semicolon ∷ [])
 
 -- if (P_NAME(ctx, &u.f_S)) return true;
 abbrev pub call_spelled : Name → Name → Name → List Token
-call_spelled prefix n s = word (codes "if") ∷ mark 40 ∷ pattern_name prefix n ∷ mark 40 ∷ word (codes "ctx") ∷ mark 44 ∷ live_set s (mark 41 ∷ mark 41 ∷ word (codes "return") ∷ word (codes "true") ∷ mark 59 ∷ [])
+call_spelled prefix n s = word (codes "if") ∷ open_round ∷ pattern_name prefix n ∷ open_round ∷ word (codes "ctx") ∷ comma ∷ live_set s (close_round ∷ close_round ∷ word (codes "return") ∷ word (codes "true") ∷ semicolon ∷ [])
 
 -- statements, of the decoder and the prefix with these names
 abbrev mutual
   pub spelled : Width → Name → Name → Stmt → List Token
-  spelled w d p (on_mask m v ss) = if_spelled w m v ++ (all_spelled w d p ss ++ mark 125 ∷ [])
+  spelled w d p (on_mask m v ss) = if_spelled w m v ++ (all_spelled w d p ss ++ close_brace ∷ [])
   spelled w d p (extract x s) = extract_call_spelled d x s
   spelled w d p (call n s) = call_spelled p n s
 
@@ -133,22 +161,22 @@ abbrev mutual
 
 -- arg_S f_S;
 abbrev pub union_set_spelled : Name → List Token
-union_set_spelled s = arg_ s ∷ f_ s ∷ mark 59 ∷ []
+union_set_spelled s = arg_ s ∷ f_ s ∷ semicolon ∷ []
 
 -- union { .. } u; where there is a pattern
 abbrev pub union_spelled : List Pattern → List Name → List Token
 union_spelled [] sets = []
-union_spelled (p ∷ ps) sets = (word (codes "union") ∷ mark 123 ∷ []) ++ (flat_map union_set_spelled sets ++ (mark 125 ∷ word (codes "u") ∷ mark 59 ∷ []))
+union_spelled (p ∷ ps) sets = (word (codes "union") ∷ open_brace ∷ []) ++ (flat_map union_set_spelled sets ++ (close_brace ∷ word (codes "u") ∷ semicolon ∷ []))
 
 -- static bool F(DisasContext *ctx, uintW_t insn) {
 abbrev pub decoder_head_spelled : Width → Name → Bool → List Token
 decoder_head_spelled w decoder is_static =
     static_spelled is_static
-    ++ (word (codes "bool") ∷ word decoder ∷ first_parameter (word (word_type w) ∷ word (codes "insn") ∷ mark 41 ∷ mark 123 ∷ []))
+    ++ (word (codes "bool") ∷ word decoder ∷ first_parameter (word (word_type w) ∷ word (codes "insn") ∷ close_round ∷ open_brace ∷ []))
 
 -- return false; }
 abbrev pub decoder_end_spelled : List Token
-decoder_end_spelled = word (codes "return") ∷ word (codes "false") ∷ mark 59 ∷ mark 125 ∷ []
+decoder_end_spelled = word (codes "return") ∷ word (codes "false") ∷ semicolon ∷ close_brace ∷ []
 
 -- The rules give a program with patterns a prefix. Without one nothing is spelled by it.
 abbrev pub prefix_of : Option Prefix → Prefix

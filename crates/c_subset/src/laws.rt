@@ -5,7 +5,7 @@ ghost use Rattle.c_subset.specs.Tokens.{Token, tokens_of};
 ghost use Rattle.c_subset.specs.Lexed.{IsLexed};
 ghost use Rattle.c_subset.specs.Programs.{Program};
 ghost use Rattle.c_subset.specs.Spells.{Spells};
-ghost use Rattle.c_subset.specs.Row.{RowTwo, Empty, TokenExamples};
+ghost use Rattle.c_subset.specs.Examples.{Nop, Empty, TokenExamples};
 
 /// The tokens that are read of a text are those that the lexical rules give it.
 pub fn text_is_lexed()
@@ -22,5 +22,5 @@ pub fn text_spells_one()
 pub fn examples()
     ensures tokens { TokenExamples }
     ensures empty { Empty }
-    ensures row_two { RowTwo }
+    ensures nop { Nop }
 {}

@@ -1,16 +1,25 @@
 //! Builds the program of one pattern by hand, and reads it back.
 
+ghost use Rattle.std.specs.Prelude.{◌≡◌, IfOk};
+ghost use Rattle.c_subset.specs.Examples.{nop_program};
+ghost use Rattle.c_subset.specs.View.{program_of};
+
 use crate::{Body, Extract, Extracts, Names, Patterns, Program, Stmt};
 use dt_values::{Name, Width};
 use std::alloc::Global;
 use std::test::Fail;
 
-fn name(bytes: &[u8]) -> Result<Name, Fail> {
+fn name(bytes: &[u8]) -> Result<Name, Fail>
+    ensures { IfOk result (λ name. name ≡ bytes.now) }
+{
     let name = Name::from_bytes(bytes).ok_or("a name")?;
     Ok(name)
 }
 
-fn one_pattern(alloc: Global) -> Result<Program, Fail> {
+/// The program of the example with the one pattern `nop`.
+fn one_pattern(alloc: Global) -> Result<Program, Fail>
+    ensures { IfOk result (λ program. program_of program ≡ nop_program) }
+{
     let set = name(b"decode0")?;
     let format = name(b"decode_Fmt_0")?;
     let pattern = name(b"nop")?;

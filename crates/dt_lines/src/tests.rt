@@ -1,3 +1,5 @@
+//! Logical lines by example, and each public call once.
+
 use crate::scan::{LARGEST_FILE, logical};
 use crate::{Span, Tokens};
 use std::test::Fail;

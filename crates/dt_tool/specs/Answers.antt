@@ -1,10 +1,10 @@
 -- What an outcome and the text on standard error say of what is due.
 use Rattle.std.specs.Prelude.{ℕ, ◌≡◌, ◌⊎◌, List, [], take, Option, Some, None, option_map, option_and_then}
 use Rattle.dt_io.specs.Causes.{Rose}
-use Rattle.dt_io.specs.Bytes.{appended}
+use Rattle.dt_io.specs.Bytes.{AppendsPart, appended}
 use Rattle.dt_io.specs.Files.{Files}
 use Rattle.dt_tool.specs.Words.{file_named}
-use Rattle.dt_tool.specs.Due.{Due, usage, missing, refused, written, due}
+use Rattle.dt_tool.specs.Due.{Due, usage, missing, refused, written, due, CanBeDue}
 use Rattle.dt_tool.specs.Messages as said
 use Rattle.dt_tool.specs.declared.status.Outcome.{Outcome}
 use Rattle.dt_tool.specs.declared.status.Outcome.TheVariants as outcomes
@@ -35,3 +35,21 @@ message_for outcomes.NoMemory words told = Some said.no_memory
 pub record Reports (old new : Option (List ℕ)) (before now : ℕ) (text : List ℕ) : Type 0 where
   pub front : (n : ℕ) × (new ≡ appended old (take n text))
   pub whole : Rose before now ⊎ (new ≡ appended old text)
+
+-- A text that is due for some content of the named file came behind what is told, whole.
+pub record WritesWhole (words : List (List ℕ)) (old new : Option (List ℕ)) : Type 0 where
+  pub text : List ℕ
+  pub due : CanBeDue words (written text)
+  pub whole : new ≡ appended old text
+
+-- A front of such a text did.
+pub record WritesFront (words : List (List ℕ)) (old new : Option (List ℕ)) : Type 0 where
+  pub text : List ℕ
+  pub due : CanBeDue words (written text)
+  pub front : AppendsPart old new text
+
+-- What is said of a refusal for some content of the named file was reported.
+pub record SaysRefusal (words : List (List ℕ)) (old new : Option (List ℕ)) (before now : ℕ) : Type 0 where
+  pub text : List ℕ
+  pub due : CanBeDue words (refused text)
+  pub said : Reports old new before now text

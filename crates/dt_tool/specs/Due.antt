@@ -1,5 +1,5 @@
 -- What is due for words over files, whatever the outside does: in the order of refusals, the words, the input, its size, its lines.
-use Rattle.std.specs.Prelude.{ℕ, nat_lt, List, [], ◌∷◌, length, Option, Some, None, option_and_then, if◌then◌else◌}
+use Rattle.std.specs.Prelude.{◌≡◌, ℕ, nat_lt, List, [], ◌∷◌, length, Option, Some, None, option_and_then, if◌then◌else◌}
 use Rattle.std.specs.FinMap as map
 use Rattle.dt_io.specs.Files.{Files}
 use Rattle.dt_lines.specs.Lines.{logical_lines}
@@ -9,11 +9,11 @@ use Rattle.dt_tool.specs.Overlaps.{first_overlap_of}
 use Rattle.dt_tool.specs.Layout.{layout}
 use Rattle.dt_tool.specs.Messages as said
 
--- the most bytes that a pattern file may have
+-- the most bytes that a pattern file may have: LARGEST_FILE of dt_lines
 abbrev pub limit : ℕ
 limit = 4194304
 
--- the first broken rule of a file: the line of the least that is no pattern, or else the members of the first knot; or none
+-- the first broken rule of a file: the line of the least that is no pattern, or else the members of the first knot (the laws `law_first_overlap` and `law_whole_lines` tie them to the definition of knots); or none
 pub data Verdict : Type 0 where
   kept : Verdict
   not_built : ℕ → Verdict
@@ -59,3 +59,10 @@ due words files = due_of_file (file_named words) files
 -- the bytes of the file that the words name
 abbrev pub input : List (List ℕ) → Files → Option (List ℕ)
 input words files = option_and_then (map.get files) (file_named words)
+
+-- some content of the file that the words name makes this due
+pub record CanBeDue (words : List (List ℕ)) (what : Due) : Type 0 where
+  pub file : List ℕ
+  pub bytes : List ℕ
+  pub named : file_named words ≡ Some file
+  pub due : due_of_bytes file bytes ≡ what

@@ -1,5 +1,5 @@
 -- The patterns of a file, in file order: docs/devel/decodetree.rst, "Patterns", for lines of a name and 32 bits.
-use Rattle.std.specs.Prelude.{ℕ, ◌+◌, ◌*◌, ◌^◌, ◌==◌, ◌&&◌, ◌||◌, Bool, true, false, List, [], ◌∷◌, length, filter_map, find, Option, Some, None, option_map, bit_and, if◌then◌else◌}
+use Rattle.std.specs.Prelude.{ℕ, ◌+◌, ◌*◌, ◌^◌, ◌==◌, ◌&&◌, ◌||◌, Bool, true, false, List, [], ◌∷◌, length, filter_map, find, Option, Some, None, option_map, bit_and, is_none, if◌then◌else◌}
 use Rattle.std.specs.List.{list_all}
 use Rattle.dt_values.specs.Names.{is_name}
 use Rattle.dt_lines.specs.Lines.{Line, logical_lines}
@@ -47,10 +47,6 @@ pattern_in number (name ∷ token ∷ more ∷ rest) = None
 
 abbrev pub pattern_of : Line → Option Pattern
 pattern_of l = if l.indent == 0 then pattern_in l.line l.tokens else None
-
-abbrev pub is_none : {A : Type 0} → Option A → Bool
-is_none None = true
-is_none (Some x) = false
 
 -- the first line that is no pattern, among these
 abbrev pub first_broken : List Line → Option ℕ

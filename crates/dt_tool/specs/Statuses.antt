@@ -3,10 +3,10 @@ use Rattle.std.specs.Prelude.{ℕ}
 use Rattle.dt_tool.specs.declared.status.Outcome.{Outcome}
 use Rattle.dt_tool.specs.declared.status.Outcome.TheVariants as outcomes
 
-abbrev pub number_of : Outcome → ℕ
-number_of outcomes.Done = 0
-number_of outcomes.Refused = 1
-number_of outcomes.Usage = 2
-number_of outcomes.ReadFault = 3
-number_of outcomes.WriteFault = 4
-number_of outcomes.NoMemory = 5
+abbrev pub exit_status : Outcome → ℕ
+exit_status outcomes.Done = 0
+exit_status outcomes.Refused = 1
+exit_status outcomes.Usage = 2
+exit_status outcomes.ReadFault = 3
+exit_status outcomes.WriteFault = 4
+exit_status outcomes.NoMemory = 5

@@ -2,7 +2,7 @@
 use Rattle.std.specs.Prelude.{ℕ, ◌≡◌, ◌≢◌, ◌<◌, ◌⊎◌, List, [], length, Option, Result, Ok, Err, Vec}
 use Rattle.std.specs.String.{string_bytes}
 use Rattle.dt_io.specs.Files.{Files, Held, NotHeld}
-use Rattle.dt_tool.specs.Due.{Due, usage, missing, refused, written, limit}
+use Rattle.dt_tool.specs.Due.{Due, usage, missing, refused, written, limit, CanBeDue}
 use Rattle.dt_tool.specs.Patterns.{Pattern}
 use Rattle.dt_tool.specs.Messages as said
 use Rattle.dt_tool.specs.declared.generate.Stop.{Stop}
@@ -28,12 +28,20 @@ IsRefused (refused message) = Unit {0}
 IsRefused (written text) = ⊥
 
 -- A text is what is due, or a stop is. Want of memory says nothing; a read that failed may stand for any file.
-abbrev pub Agrees : {A : Type 0} → Type 0 → Result (Vec ℕ A) Stop → Due → Type 0
-Agrees Failed (Ok text) due = due ≡ written text.items
-Agrees Failed (Err stops.Usage) due = due ≡ usage
-Agrees Failed (Err (stops.ReadFault message)) due = IsMissing due ⊎ Failed
-Agrees Failed (Err (stops.Refused message)) due = due ≡ refused (string_bytes message)
-Agrees Failed (Err stops.NoMemory) due = Unit {0}
+abbrev pub AnswersDue : {A : Type 0} → Type 0 → Result (Vec ℕ A) Stop → Due → Type 0
+AnswersDue Failed (Ok text) due = due ≡ written text.items
+AnswersDue Failed (Err stops.Usage) due = due ≡ usage
+AnswersDue Failed (Err (stops.ReadFault message)) due = IsMissing due ⊎ Failed
+AnswersDue Failed (Err (stops.Refused message)) due = due ≡ refused (string_bytes message)
+AnswersDue Failed (Err stops.NoMemory) due = Unit {0}
+
+-- a text, or what is said of a refusal, is due for some content of the file that the words name, also where the folder doesn't tell it
+abbrev pub IsForSome : {A : Type 0} → Result (Vec ℕ A) Stop → List (List ℕ) → Type 0
+IsForSome (Ok text) words = CanBeDue words (written text.items)
+IsForSome (Err stops.Usage) words = Unit {0}
+IsForSome (Err (stops.ReadFault message)) words = Unit {0}
+IsForSome (Err (stops.Refused message)) words = CanBeDue words (refused (string_bytes message))
+IsForSome (Err stops.NoMemory) words = Unit {0}
 
 -- a refusal says what is due; no other stop but want of memory comes
 abbrev pub Refuses : Stop → Due → Type 0

@@ -1,7 +1,7 @@
 -- What the command words say: exactly `gen` and a file that doesn't begin with a dash.
-use Rattle.std.specs.Prelude.{ℕ, ◌==◌, ◌&&◌, Bool, false, not, List, [], ◌∷◌, Option, Some, None, String, map, codes, nat_eq, if◌then◌else◌}
-use Rattle.std.specs.Cmp.Lexicographic.{pointwise}
+use Rattle.std.specs.Prelude.{ℕ, ◌==◌, ◌&&◌, Bool, false, not, List, [], ◌∷◌, Option, Some, None, String, map, codes, if◌then◌else◌}
 use Rattle.std.specs.String.{string_bytes}
+use Rattle.dt_values.specs.Types.{is_text}
 
 -- the bytes of each word
 abbrev pub texts : {A : Type 0} → List (String A) → List (List ℕ)
@@ -10,9 +10,6 @@ texts words = map string_bytes words
 abbrev pub begins_with_dash : List ℕ → Bool
 begins_with_dash [] = false
 begins_with_dash (b ∷ bs) = b == 45
-
-abbrev pub is_text : List ℕ → List ℕ → Bool
-is_text = pointwise nat_eq
 
 -- the pattern file that the words name
 abbrev pub file_named : List (List ℕ) → Option (List ℕ)

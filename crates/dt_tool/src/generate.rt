@@ -11,7 +11,7 @@ ghost use Rattle.dt_tool.specs.Overlaps.{first_overlap_of};
 ghost use Rattle.dt_tool.specs.View.{pattern_seen};
 ghost use Rattle.dt_tool.specs.Decoders.{IsDecoder};
 ghost use Rattle.dt_tool.specs.Due.{due, due_of_verdict, input, verdict};
-ghost use Rattle.dt_tool.specs.Stops.{Agrees, Refuses, RefusesMembers, SaysUnread, StopsLoad};
+ghost use Rattle.dt_tool.specs.Stops.{AnswersDue, IsForSome, Refuses, RefusesMembers, SaysUnread, StopsLoad};
 
 use crate::messages;
 use crate::overlap::first_overlap;
@@ -26,17 +26,23 @@ use std::alloc::{AllocError, Global};
 /// Why no text is written, with what is said of it.
 #[derive(Debug, Drop)]
 pub enum Stop {
+    /// The words are no command.
     Usage,
+    /// The file isn't there, or a read of it failed.
     ReadFault(String),
+    /// The file breaks a rule.
     Refused(String),
+    /// Memory is wanting.
     NoMemory,
 }
 
 /// The C text of the file that the words name.
 pub fn generate<D: Folder>(alloc: Global, words: &[String], folder: &mut D) -> Result<Vec<u8>, Stop>
     ensures usage { (result ≡ Err Stop.Usage) ↔ (file_named (texts words.now) ≡ None) }
-    ensures answer { IfSome (D.files folder.old) (λ files. Agrees (Rose (D.read_faults folder.old) (D.read_faults folder.new)) result (due (texts words.now) files)) }
+    ensures answer { IfSome (D.files folder.old) (λ files. AnswersDue (Rose (D.read_faults folder.old) (D.read_faults folder.new)) result (due (texts words.now) files)) }
+    ensures some { IsForSome result (texts words.now) }
     ensures decoder { IfOk result (λ text. IfSome (D.files folder.old) (λ files. IsSomeAnd (input (texts words.now) files) (λ bytes. IsDecoder text.items (flat_list bytes)))) }
+    ensures usage_reads_nothing { result ≡ Err Stop.Usage → folder.new ≡ folder.old }
     ensures unread { IfErr result (λ stop. IfSome (file_named (texts words.now)) (λ file. SaysUnread file (Rose (D.misses folder.old) (D.misses folder.new)) (Rose (D.read_faults folder.old) (D.read_faults folder.new)) stop)) }
     ensures files { D.files folder.new ≡ D.files folder.old }
     ensures misses { D.misses folder.old ≤ D.misses folder.new }
@@ -60,8 +66,9 @@ fn load<D: Folder>(alloc: Global, folder: &mut D, file: &str) -> Result<Vec<u8>,
 {
     match read_all(alloc, folder, file, LARGEST_FILE as u64) {
         Ok(bytes) => Ok(bytes),
-        Err(LoadFault::Missing) => Err(unread(messages::cannot_read(alloc, file))),
-        Err(LoadFault::Failed) => Err(unread(messages::cannot_read(alloc, file))),
+        Err(LoadFault::Missing | LoadFault::Failed) => {
+            Err(unread(messages::cannot_read(alloc, file)))
+        }
         Err(LoadFault::TooLarge) => Err(refused(messages::too_large(alloc, file))),
         Err(LoadFault::NoMemory) => Err(Stop::NoMemory),
     }
@@ -70,7 +77,7 @@ fn load<D: Folder>(alloc: Global, folder: &mut D, file: &str) -> Result<Vec<u8>,
 // The C text of a file of these bytes.
 fn generate_from(alloc: Global, file: &str, bytes: &[u8]) -> Result<Vec<u8>, Stop>
     requires { length bytes.now ≤ LARGEST_FILE }
-    ensures due { Agrees ⊥ result (due_of_verdict file.now bytes.now (verdict bytes.now)) }
+    ensures due { AnswersDue ⊥ result (due_of_verdict file.now bytes.now (verdict bytes.now)) }
     ensures decoder { IfOk result (λ text. IsDecoder text.items (flat_list bytes.now)) }
 {
     let patterns = patterns_in(alloc, file, bytes)?;

@@ -1,6 +1,6 @@
-//! Laws of the definitions, and examples of them: public functions whose contracts are the laws, and whose bodies are empty.
+//! Laws of the definitions, and examples of them: public functions whose contracts are the laws.
 
-ghost use Rattle.std.specs.Prelude.{◌≡◌, ◌≢◌, ◌<◌, ◌^◌, ◌↔◌, ℕ, Bool, false, List, [], ◌∷◌, ◌++◌, length, map, All, Contains, Some};
+ghost use Rattle.std.specs.Prelude.{◌≡◌, ◌≢◌, ◌<◌, ◌^◌, ◌↔◌, ℕ, Bool, true, false, List, [], ◌∷◌, ◌++◌, length, map, All, Contains, Some};
 ghost use Rattle.c_subset.specs.Programs.{done};
 ghost use Rattle.c_subset.specs.Spells.{Spells};
 ghost use Rattle.dt_lines.specs.Lines.{Line};
@@ -69,6 +69,7 @@ pub fn law_first_overlap()
 pub fn examples()
     ensures matched { scripted_run nop_program [] [] 0 ≡ run_with (call_of nop ∷ []) ended_true 1 1 }
     ensures unmatched { scripted_run nop_program [] [] 1 ≡ run_with [] ended_false 1 0 }
+    ensures after_true { scripted_run (chain_program (nop ∷ nop ∷ [])) [] (true ∷ []) 0 ≡ run_with (call_of nop ∷ []) ended_true 1 1 }
     ensures after_false { scripted_run (chain_program (nop ∷ nop ∷ [])) [] (false ∷ []) 0 ≡ run_with (call_of nop ∷ call_of nop ∷ []) ended_true 2 2 }
     ensures no_live_set { scripted_run (nop_program_with (nop_call_then done)) [] [] 0 ≡ run_with [] stuck 0 0 }
     ensures lost_by_call { scripted_run (nop_program_with (nop_extraction_then (nop_call_then (nop_call_then done)))) [] (false ∷ []) 0 ≡ run_with (call_of nop ∷ []) stuck 0 1 }

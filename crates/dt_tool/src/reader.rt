@@ -17,6 +17,7 @@ use std::alloc::Global;
 pub enum PatternFault {
     /// The first line, by its number, that is no pattern of a name and 32 bits.
     NotBuilt(u32),
+    /// There was no memory for the patterns.
     NoMemory,
 }
 

@@ -27,12 +27,12 @@ pub struct Status {
 }
 
 impl Status {
-    ghost use Rattle.dt_tool.specs.Statuses.{number_of};
+    ghost use Rattle.dt_tool.specs.Statuses.{exit_status};
 
     /// The status of an outcome.
     pub fn of(outcome: Outcome) -> Status
         ensures outcome { result.outcome ≡ outcome }
-        ensures number { result.number ≡ number_of outcome }
+        ensures number { result.number ≡ exit_status outcome }
     {
         let number = match outcome {
             Outcome::Done => 0,

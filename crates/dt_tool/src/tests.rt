@@ -103,11 +103,11 @@ fn run(
     })
 }
 
-/// `gen t` of this text ends so, writes and says these bytes, and leaves the file as it was.
+/// `gen t` of this text ends with this number, writes and says these bytes, and leaves the file as it was.
 fn check_text(
     rt: &(impl Abort + AllocGlobal),
     text: &str,
-    outcome: Outcome,
+    number: u8,
     out: &str,
     err: &str,
 ) -> Result<(), AllocError> {
@@ -118,7 +118,7 @@ fn check_text(
         16,
         NOTHING_FAILS,
     )?;
-    assert_eq!(rt; ran.status, Status::of(outcome), "for {text}");
+    assert_eq!(rt; ran.status.number, number, "for {text}");
     assert_eq!(rt; ran.out.bytes(), out.as_bytes(), "for {text}");
     assert_eq!(rt; ran.err.bytes(), err.as_bytes(), "for {text}");
     assert!(rt; ran.folder.file("t") == Some(text.as_bytes()));
@@ -128,39 +128,161 @@ fn check_text(
 #[test]
 fn files_give_their_text_or_their_first_refusal(rt: HostRuntime) -> Result<(), Fail> {
     let table = [
-        ("", Outcome::Done, EMPTY_TEXT, ""),
-        ("\n \t\r\n\x0b\x0c", Outcome::Done, EMPTY_TEXT, ""),
-        (NOP_LINE, Outcome::Done, NOP_TEXT, ""),
-        ("\tnop", Outcome::Refused, "", "t:1: error: N2 not built\n"),
+        ("", 0, EMPTY_TEXT, ""),
+        ("\n \t\r\n\x0b\x0c", 0, EMPTY_TEXT, ""),
+        (NOP_LINE, 0, NOP_TEXT, ""),
+        ("nop 00000000000000000000000000000000 \r\n", 0, NOP_TEXT, ""),
+        ("a 000\n", 1, "", "t:1: error: N2 not built\n"),
+        ("a 0.\n", 1, "", "t:1: error: N2 not built\n"),
+        ("\n\n# a\nb\n", 1, "", "t:3: error: N2 not built\n"),
         (
-            "a 000\n",
-            Outcome::Refused,
+            " a 00000000000000000000000000000000\n",
+            1,
             "",
             "t:1: error: N2 not built\n",
         ),
-        ("a 0.\n", Outcome::Refused, "", "t:1: error: N2 not built\n"),
         (
-            "\n\n# a\nb\n",
-            Outcome::Refused,
+            "a 0000000000000000000000000000000\n",
+            1,
             "",
-            "t:3: error: N2 not built\n",
+            "t:1: error: N2 not built\n",
         ),
         (
-            "a 00000000000000000000000000000000\n\nb 00000000000000000000000000000000\n",
-            Outcome::Refused,
+            "a 000000000000000000000000000000000\n",
+            1,
             "",
-            "t:1: error: H2 overlapping: a\nt:3: note: H2 overlapping: b\n",
+            "t:1: error: N2 not built\n",
+        ),
+        (
+            "a 00000000000000020000000000000000\n",
+            1,
+            "",
+            "t:1: error: N2 not built\n",
         ),
         (
             "a 00000000000000000000000000000000\na 00000000000000000000000000000000 &x\n",
-            Outcome::Refused,
+            1,
             "",
             "t:2: error: N2 not built\n",
         ),
     ];
-    for (text, outcome, out, err) in table {
-        check_text(&rt, text, outcome, out, err)?;
+    for (text, number, out, err) in table {
+        check_text(&rt, text, number, out, err)?;
     }
+    Ok(())
+}
+
+#[test]
+fn overlapping_patterns_are_named_in_the_order_of_the_file(rt: HostRuntime) -> Result<(), Fail> {
+    let table = [
+        (
+            "a 00000000000000000000000000000000\n\nb 00000000000000000000000000000000\n",
+            "t:1: error: H2 overlapping: a\nt:3: note: H2 overlapping: b\n",
+        ),
+        (
+            "a 00000000000000000000000000000000
+b 00000000000000000000000000000001
+c 10000000000000000000000000000000
+d 10000000000000000000000000000000
+e 00000000000000000000000000000001
+f 00000000000000000000000000000001
+",
+            "t:2: error: H2 overlapping: b
+t:5: note: H2 overlapping: e
+t:6: note: H2 overlapping: f
+",
+        ),
+    ];
+    for (text, err) in table {
+        check_text(&rt, text, 1, "", err)?;
+    }
+    Ok(())
+}
+
+/// A line of a name of so many bytes and 32 zeros.
+fn line_of_name(alloc: Global, len: usize) -> Result<String, AllocError> {
+    let mut line = String::new(alloc);
+    for _ in 0..len {
+        line.push('x')?;
+    }
+    line.push_str(" 00000000000000000000000000000000\n")?;
+    Ok(line)
+}
+
+#[test]
+fn names_have_up_to_128_bytes(rt: HostRuntime) -> Result<(), Fail> {
+    for (len, number) in [(128, 0), (129, 1)] {
+        let line = line_of_name(rt.alloc(), len)?;
+        let ran = run(
+            rt.alloc(),
+            &["gen", "t"],
+            line.as_bytes(),
+            16,
+            NOTHING_FAILS,
+        )?;
+        assert_eq!(rt; ran.status.number, number);
+    }
+    Ok(())
+}
+
+#[test]
+fn the_example_gives_the_text_of_the_readme(rt: HostRuntime) -> Result<(), Fail> {
+    let text = "ecall     00000000000000000000000001110011
+ebreak    00000000000100000000000001110011
+fence_tso 10000011001100000000000000001111
+pause     00000001000000000000000000001111
+";
+    let written = "/* Made from pattern files. */
+
+typedef struct {
+} arg_decode0;
+
+typedef arg_decode0 arg_ecall;
+static bool trans_ecall(DisasContext *ctx, arg_ecall *a);
+
+typedef arg_decode0 arg_ebreak;
+static bool trans_ebreak(DisasContext *ctx, arg_ebreak *a);
+
+typedef arg_decode0 arg_fence_tso;
+static bool trans_fence_tso(DisasContext *ctx, arg_fence_tso *a);
+
+typedef arg_decode0 arg_pause;
+static bool trans_pause(DisasContext *ctx, arg_pause *a);
+
+static void decode_extract_decode_Fmt_0(DisasContext *ctx, arg_decode0 *a, uint32_t insn)
+{
+}
+
+static bool decode(DisasContext *ctx, uint32_t insn)
+{
+    union {
+        arg_decode0 f_decode0;
+    } u;
+
+    if ((insn & 0xffffffff) == 0x00000073) {
+        /* 1:1 */
+        decode_extract_decode_Fmt_0(ctx, &u.f_decode0, insn);
+        if (trans_ecall(ctx, &u.f_decode0)) return true;
+    }
+    if ((insn & 0xffffffff) == 0x00100073) {
+        /* 1:2 */
+        decode_extract_decode_Fmt_0(ctx, &u.f_decode0, insn);
+        if (trans_ebreak(ctx, &u.f_decode0)) return true;
+    }
+    if ((insn & 0xffffffff) == 0x8330000f) {
+        /* 1:3 */
+        decode_extract_decode_Fmt_0(ctx, &u.f_decode0, insn);
+        if (trans_fence_tso(ctx, &u.f_decode0)) return true;
+    }
+    if ((insn & 0xffffffff) == 0x0100000f) {
+        /* 1:4 */
+        decode_extract_decode_Fmt_0(ctx, &u.f_decode0, insn);
+        if (trans_pause(ctx, &u.f_decode0)) return true;
+    }
+    return false;
+}
+";
+    check_text(&rt, text, 0, written, "")?;
     Ok(())
 }
 
@@ -237,10 +359,14 @@ fn other_words_are_a_usage(rt: HostRuntime) -> Result<(), Fail> {
 
 #[test]
 fn a_file_that_is_not_there_is_a_read_fault(rt: HostRuntime) -> Result<(), Fail> {
-    for file in ["s", ""] {
+    let table = [
+        ("s", "error: cannot read s\n"),
+        ("", "error: cannot read \n"),
+        ("a b", "error: cannot read a b\n"),
+    ];
+    for (file, said) in table {
         let ran = run(rt.alloc(), &["gen", file], b"", 16, NOTHING_FAILS)?;
-        let said = format!(in rt.alloc(); "error: cannot read {file}\n")?;
-        assert_eq!(rt; ran.status, Status::of(Outcome::ReadFault));
+        assert_eq!(rt; ran.status.outcome, Outcome::ReadFault);
         assert_eq!(rt; ran.status.number, 3);
         assert_eq!(rt; ran.err.bytes(), said.as_bytes());
         assert_eq!(rt; ran.out.bytes(), b"".as_slice());
@@ -304,6 +430,8 @@ fn a_failure_of_standard_error_changes_no_status(rt: HostRuntime) -> Result<(), 
 /// Call number i fails, for i from 1 up to the first run that meets no failure.
 #[test]
 fn each_call_that_fails_has_its_outcome(rt: HostRuntime) -> Result<(), Fail> {
+    let mut read_done = false;
+    let mut write_done = false;
     for call in 1..100 {
         let failing = [call];
         let reads_fail = Failing {
@@ -318,7 +446,7 @@ fn each_call_that_fails_has_its_outcome(rt: HostRuntime) -> Result<(), Fail> {
             reads_fail,
         )?;
         if ran.status.outcome == Outcome::Done {
-            assert_eq!(rt; call, 4);
+            read_done = true;
             break;
         }
         assert_eq!(rt; ran.status, Status::of(Outcome::ReadFault));
@@ -341,6 +469,7 @@ fn each_call_that_fails_has_its_outcome(rt: HostRuntime) -> Result<(), Fail> {
         let kept = (call as usize - 1) * 16;
         if ran.status.outcome == Outcome::Done {
             assert!(rt; kept >= NOP_TEXT.len());
+            write_done = true;
             break;
         }
         assert!(rt; kept < NOP_TEXT.len());
@@ -348,6 +477,7 @@ fn each_call_that_fails_has_its_outcome(rt: HostRuntime) -> Result<(), Fail> {
         assert_eq!(rt; ran.out.bytes(), &NOP_TEXT.as_bytes()[..kept]);
         assert_eq!(rt; ran.err.bytes(), b"error: cannot write\n".as_slice());
     }
+    assert!(rt; read_done && write_done);
     Ok(())
 }
 

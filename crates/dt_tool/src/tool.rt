@@ -8,8 +8,8 @@ ghost use Rattle.dt_tool.specs.Due.{due, input};
 ghost use Rattle.dt_tool.specs.Patterns.{flat_list};
 ghost use Rattle.dt_tool.specs.Decoders.{AppendsDecoder};
 ghost use Rattle.dt_tool.specs.Stops.{IsMissing, IsRefused, IsWritten};
-ghost use Rattle.dt_tool.specs.Statuses.{number_of};
-ghost use Rattle.dt_tool.specs.Answers.{Completes, Reports, message_for};
+ghost use Rattle.dt_tool.specs.Statuses.{exit_status};
+ghost use Rattle.dt_tool.specs.Answers.{Completes, Reports, SaysRefusal, WritesFront, WritesWhole, message_for};
 
 use crate::generate::{Stop, generate};
 use crate::messages;
@@ -27,7 +27,7 @@ pub fn tool<D: Folder, O: Sink, E: Sink>(
     out: &mut O,
     err: &mut E,
 ) -> Status
-    ensures number { result.number ≡ number_of result.outcome }
+    ensures number { result.number ≡ exit_status result.outcome }
 
     // When each outcome comes.
     ensures usage { (result.outcome ≡ Outcome.Usage) ↔ (file_named (texts words.now) ≡ None) }
@@ -40,11 +40,18 @@ pub fn tool<D: Folder, O: Sink, E: Sink>(
     ensures part { result.outcome ≡ Outcome.WriteFault → IfSome (D.files folder.old) (λ files. IsWritten (due (texts words.now) files) (λ text. AppendsPart (O.written out.old) (O.written out.new) text)) }
     ensures complete { IfSome (D.files folder.old) (λ files. Completes (due (texts words.now) files) result.outcome (Rose (D.read_faults folder.old) (D.read_faults folder.new)) (Rose (O.faults out.old) (O.faults out.new))) }
 
+    // The same of folders that don't tell their files: a text or a refusal is one for some content of the named file.
+    ensures some_text { result.outcome ≡ Outcome.Done → WritesWhole (texts words.now) (O.written out.old) (O.written out.new) }
+    ensures some_part { result.outcome ≡ Outcome.WriteFault → WritesFront (texts words.now) (O.written out.old) (O.written out.new) }
+    ensures some_refusal { result.outcome ≡ Outcome.Refused → SaysRefusal (texts words.now) (E.written err.old) (E.written err.new) (E.faults err.old) (E.faults err.new) }
+
     // What is said of it.
     ensures said { IfSome (message_for result.outcome (texts words.now) (D.files folder.old)) (λ text. Reports (E.written err.old) (E.written err.new) (E.faults err.old) (E.faults err.new) text) }
 
     // What stands afterwards.
-    ensures untouched { result.outcome ≢ Outcome.Done → result.outcome ≢ Outcome.WriteFault → O.written out.new ≡ O.written out.old }
+    ensures untouched { result.outcome ≢ Outcome.Done → result.outcome ≢ Outcome.WriteFault → out.new ≡ out.old }
+    ensures unread_folder { result.outcome ≡ Outcome.Usage → folder.new ≡ folder.old }
+    ensures quiet { result.outcome ≡ Outcome.Done → err.new ≡ err.old }
     ensures files { D.files folder.new ≡ D.files folder.old }
     ensures misses { D.misses folder.old ≤ D.misses folder.new }
     ensures read_faults { D.read_faults folder.old ≤ D.read_faults folder.new }
@@ -64,10 +71,10 @@ pub fn tool<D: Folder, O: Sink, E: Sink>(
 
 // Writes the text, and says where that fails.
 fn write_text<O: Sink, E: Sink>(text: &[u8], out: &mut O, err: &mut E) -> Status
-    ensures number { result.number ≡ number_of result.outcome }
+    ensures number { result.number ≡ exit_status result.outcome }
     ensures outcome { (result.outcome ≡ Outcome.Done) ⊎ (result.outcome ≡ Outcome.WriteFault) }
     ensures done { result.outcome ≡ Outcome.Done → O.written out.new ≡ appended (O.written out.old) text.now }
-    ensures quiet { result.outcome ≡ Outcome.Done → Reports (E.written err.old) (E.written err.new) (E.faults err.old) (E.faults err.new) [] }
+    ensures quiet { result.outcome ≡ Outcome.Done → err.new ≡ err.old }
     ensures part { result.outcome ≡ Outcome.WriteFault → AppendsPart (O.written out.old) (O.written out.new) text.now }
     ensures cause { result.outcome ≡ Outcome.WriteFault → Rose (O.faults out.old) (O.faults out.new) }
     ensures said { result.outcome ≡ Outcome.WriteFault → Reports (E.written err.old) (E.written err.new) (E.faults err.old) (E.faults err.new) (codes "error: cannot write\n") }
@@ -85,7 +92,7 @@ fn write_text<O: Sink, E: Sink>(text: &[u8], out: &mut O, err: &mut E) -> Status
 // Says a text on `err`, whether it takes it or not.
 fn report<E: Sink>(text: &str, outcome: Outcome, err: &mut E) -> Status
     ensures outcome { result.outcome ≡ outcome }
-    ensures number { result.number ≡ number_of outcome }
+    ensures number { result.number ≡ exit_status outcome }
     ensures said { Reports (E.written err.old) (E.written err.new) (E.faults err.old) (E.faults err.new) text.now }
     ensures faults { E.faults err.old ≤ E.faults err.new }
     ensures rest { E.rest err.new ≡ E.rest err.old }

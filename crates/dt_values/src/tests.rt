@@ -1,3 +1,5 @@
+//! Names, types and widths by example, and each public call once.
+
 use crate::name::is_name_byte;
 use crate::{CType, Member, Name, Width};
 use std::test::Fail;

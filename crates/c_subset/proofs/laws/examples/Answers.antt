@@ -1,7 +1,7 @@
 use Rattle.std.proofs.Common.{refl}
 use Rattle.c_subset.specs.Tokens.{read}
 use Rattle.c_subset.specs.Programs.{hex, spelling}
-use Rattle.c_subset.proofs.Rows.{empty_keeps, row_two_keeps}
+use Rattle.c_subset.proofs.ExampleRules.{empty_keeps, nop_keeps}
 use Rattle.c_subset.proofs.laws.examples.Goals as goal
 
 pub returns-clause-tokens : goal.returns-clause-tokens
@@ -12,6 +12,6 @@ pub returns-clause-empty : goal.returns-clause-empty
 unfolding read spelling hex
 returns-clause-empty c = record { rules = empty_keeps; tokens = refl }
 
-pub returns-clause-row_two : goal.returns-clause-row_two
+pub returns-clause-nop : goal.returns-clause-nop
 unfolding read spelling hex
-returns-clause-row_two c = record { rules = row_two_keeps; tokens = refl }
+returns-clause-nop c = record { rules = nop_keeps; tokens = refl }

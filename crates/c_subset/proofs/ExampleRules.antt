@@ -5,7 +5,7 @@ use Rattle.std.proofs.lemmas.List.Elements.{All-nil, All-cons}
 use Rattle.dt_values.specs.Names.{IsName}
 use Rattle.c_subset.specs.Programs.{Name}
 use Rattle.c_subset.specs.Keeps.{PatternNamed, ExtractionNamed, AllDiffer, KeepsRules}
-use Rattle.c_subset.specs.Row.{row_two_program, empty_program}
+use Rattle.c_subset.specs.Examples.{nop_program, empty_program}
 
 pub none_differ : AllDiffer []
 none_differ i j d h k = absurd (omega (arith, k))
@@ -35,8 +35,8 @@ empty_keeps = record {
   calls_with_patterns = λ e. tt;
 }
 
-pub row_two_keeps : KeepsRules row_two_program
-row_two_keeps = record {
+pub nop_keeps : KeepsRules nop_program
+nop_keeps = record {
   sets_named = one IsName _ refl;
   sets_differ = one_differs _;
   prefix_with_patterns = ((λ h e. cc), (λ h. refl));

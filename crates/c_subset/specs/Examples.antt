@@ -6,8 +6,8 @@ use Rattle.c_subset.specs.Programs.{on_mask, extract, call, done, then, Program}
 use Rattle.c_subset.specs.Spells.{Spells}
 
 -- one pattern, `nop`, with all bits 0
-abbrev pub row_two_program : Program
-row_two_program = record {
+abbrev pub nop_program : Program
+nop_program = record {
   width = W32;
   sets = codes "decode0" ∷ [];
   prefix = Some (record { name = codes "trans"; is_static = true });
@@ -19,8 +19,8 @@ row_two_program = record {
   body = then (on_mask 0xffffffff 0 (then (extract (codes "decode_Fmt_0") (codes "decode0")) (then (call (codes "nop") (codes "decode0")) done))) done;
 }
 
-abbrev pub row_two_text : List ℕ
-row_two_text = codes "/* Made from pattern files. */\n\ntypedef struct {\n} arg_decode0;\n\ntypedef arg_decode0 arg_nop;\nstatic bool trans_nop(DisasContext *ctx, arg_nop *a);\n\nstatic void decode_extract_decode_Fmt_0(DisasContext *ctx, arg_decode0 *a, uint32_t insn)\n{\n}\n\nstatic bool decode(DisasContext *ctx, uint32_t insn)\n{\n    union {\n        arg_decode0 f_decode0;\n    } u;\n\n    if ((insn & 0xffffffff) == 0x00000000) {\n        /* 1:1 */\n        decode_extract_decode_Fmt_0(ctx, &u.f_decode0, insn);\n        if (trans_nop(ctx, &u.f_decode0)) return true;\n    }\n    return false;\n}\n"
+abbrev pub nop_text : List ℕ
+nop_text = codes "/* Made from pattern files. */\n\ntypedef struct {\n} arg_decode0;\n\ntypedef arg_decode0 arg_nop;\nstatic bool trans_nop(DisasContext *ctx, arg_nop *a);\n\nstatic void decode_extract_decode_Fmt_0(DisasContext *ctx, arg_decode0 *a, uint32_t insn)\n{\n}\n\nstatic bool decode(DisasContext *ctx, uint32_t insn)\n{\n    union {\n        arg_decode0 f_decode0;\n    } u;\n\n    if ((insn & 0xffffffff) == 0x00000000) {\n        /* 1:1 */\n        decode_extract_decode_Fmt_0(ctx, &u.f_decode0, insn);\n        if (trans_nop(ctx, &u.f_decode0)) return true;\n    }\n    return false;\n}\n"
 
 -- no pattern at all
 abbrev pub empty_program : Program
@@ -39,8 +39,8 @@ empty_program = record {
 abbrev pub empty_text : List ℕ
 empty_text = codes "/* Made from pattern files. */\n\nstatic bool decode(DisasContext *ctx, uint32_t insn)\n{\n    return false;\n}\n"
 
-abbrev pub RowTwo : Type 0
-RowTwo = Spells row_two_text row_two_program
+abbrev pub Nop : Type 0
+Nop = Spells nop_text nop_program
 
 abbrev pub Empty : Type 0
 Empty = Spells empty_text empty_program
