@@ -1,13 +1,12 @@
 -- A text or a refusal is due for some content of the named file.
-use Rattle.std.proofs.Common.{◌≡◌, ℕ, ◌+◌, ◌<◌, ◌≤◌, List, length, Option, Some, refl, ap, sym, ◌∙◌, arith, true, false, subst, replicate}
-use Rattle.std.specs.Prelude.{nat_lt, if◌then◌else◌, Result, Ok, Err, Vec, IsErrAnd}
-use Rattle.std.specs.String.{string_bytes}
+use Rattle.std.proofs.Common.{◌≡◌, ℕ, ◌+◌, ◌≤◌, List, length, Option, Some, refl, ap, sym, ◌∙◌, arith, true, false, subst, replicate}
+use Rattle.std.specs.Prelude.{nat_lt, Result, Ok, Err, Vec, IsErrAnd}
 use Rattle.std.proofs.lemmas.List.{length-replicate}
 use Rattle.std.proofs.lemmas.Bool.Decides.{nat_tests}
 use Rattle.dt_io.specs.Files.{Files}
 use Rattle.dt_tool.specs.Words.{file_named}
 use Rattle.dt_tool.specs.Messages as said
-use Rattle.dt_tool.specs.Due.{Due, written, refused, limit, verdict, due_of_verdict, due_of_bytes, CanBeDue}
+use Rattle.dt_tool.specs.Due.{refused, limit, verdict, due_of_verdict, due_of_bytes}
 use Rattle.dt_tool.specs.Stops.{AnswersDue, IsForSome, StopsLoad}
 use Rattle.dt_tool.specs.declared.generate.Stop.{Stop}
 use Rattle.dt_tool.specs.declared.generate.Stop.TheVariants as stops

@@ -1,5 +1,5 @@
 -- The patterns of a file, in file order: docs/devel/decodetree.rst, "Patterns", for lines of a name and 32 bits.
-use Rattle.std.specs.Prelude.{ℕ, ◌+◌, ◌*◌, ◌^◌, ◌==◌, ◌&&◌, ◌||◌, Bool, true, false, List, [], ◌∷◌, length, filter_map, find, Option, Some, None, option_map, bit_and, is_none, if◌then◌else◌}
+use Rattle.std.specs.Prelude.{ℕ, ◌+◌, ◌*◌, ◌^◌, ◌==◌, ◌&&◌, ◌||◌, Bool, List, [], ◌∷◌, length, filter_map, find, Option, Some, None, option_map, bit_and, is_none, if◌then◌else◌}
 use Rattle.std.specs.List.{list_all}
 use Rattle.dt_values.specs.Names.{is_name}
 use Rattle.dt_lines.specs.Lines.{Line, logical_lines}
