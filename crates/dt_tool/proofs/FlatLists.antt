@@ -1,8 +1,7 @@
 -- The patterns of a flat list are sound.
-use Rattle.std.proofs.Common.{◌≡◌, ℕ, zero, suc, ◌+◌, ◌*◌, ◌<◌, ◌≤◌, ◌^◌, ◌==◌, ◌&&◌, ◌||◌, List, [], ◌∷◌, length, Bool, true, false, cond, Option, Some, None, refl, ap, ◌∙◌, arith, subst, bit_and}
+use Rattle.std.proofs.Common.{◌≡◌, ℕ, ◌+◌, ◌*◌, ◌<◌, ◌≤◌, ◌^◌, ◌==◌, ◌&&◌, ◌||◌, List, [], ◌∷◌, length, Bool, true, false, cond, Option, Some, None, refl, ap, ◌∙◌, arith, subst, bit_and}
 use Rattle.std.specs.Prelude.{IsTrue, IfSome, if◌then◌else◌}
 use Rattle.std.specs.List.{All, slice_split, onto_first, cons_option}
-use Rattle.std.proofs.Math.Nat.{two-pow-succ}
 use Rattle.std.proofs.lemmas.Nat.{and_block}
 use Rattle.std.proofs.lemmas.Bool.Decides.{nat_tests}
 use Rattle.std.proofs.lemmas.List.Elements.{All-head, All-tail, All-nil, All-cons, All-append}
@@ -12,16 +11,7 @@ use Rattle.dt_lines.specs.Lines.{Line, is_newline, without_empty_end, physical_l
 use Rattle.c_subset.proofs.Bytes.{both_true}
 use Rattle.dt_tool.specs.Patterns.{Pattern, is_bit, is_bits, fixed_digit, bit_digit, number_of, pattern_in, pattern_of, patterns_of, flat_list}
 use Rattle.dt_tool.specs.Sound.{IsSound, AreSound}
-
--- a number by digits of which none is above 1
-one_more_digit : (d r p q : ℕ) → d ≤ 1 → r < p → q ≡ p + p → d * p + r < q
-one_more_digit zero r p q h k e = omega arith
-one_more_digit (suc zero) r p q h k e = omega arith
-one_more_digit (suc (suc d)) r p q h k e = absurd (omega arith)
-
-number_below : (digit : ℕ → ℕ) → ((b : ℕ) → digit b ≤ 1) → (bs : List ℕ) → number_of digit bs < 2 ^ length bs
-number_below digit h [] = omega arith
-number_below digit h (b ∷ bs) = one_more_digit (digit b) (number_of digit bs) (2 ^ length bs) (2 ^ length (b ∷ bs)) (h b) (number_below digit h bs) (two-pow-succ (length bs))
+use Rattle.dt_tool.proofs.BinaryNumbers.{number_below}
 
 choice_below : (test : Bool) → (if test then 1 else 0) ≤ 1
 choice_below true = omega arith

@@ -4,7 +4,6 @@ pub mod Saying
 pub mod Contents
 pub mod Decoding
 pub mod Notes
-pub mod Digits
 pub mod Writing
 pub mod FirstNames
 pub mod Law

@@ -1,9 +1,9 @@
 -- The pattern of a line of a name and 32 bits.
-use Rattle.std.proofs.Common.{◌≡◌, ℕ, ◌+◌, ◌^◌, ◌&&◌, Bool, true, false, List, [], ◌∷◌, length, get_or, Option, Some, refl, ap, sym, ◌∙◌, arith}
+use Rattle.std.proofs.Common.{◌≡◌, ℕ, ◌+◌, ◌^◌, true, List, [], ◌∷◌, length, get_or, Option, Some, refl, ap, sym, ◌∙◌, arith}
 use Rattle.std.specs.List.{list_all}
 use Rattle.dt_values.specs.Names.{is_name}
 use Rattle.dt_tool.specs.Patterns.{Pattern, pattern_of, is_bits, is_bit, number_of, bit_digit, fixed_digit}
-use Rattle.std.proofs.lemmas.Bool.Decides.{nat_tests}
+use Rattle.std.proofs.lemmas.Bool.{and_parts, eqb-true}
 use Rattle.std.specs.Prelude.{◌==◌}
 use Rattle.dt_tool.proofs.BinaryNumbers.{full_mask}
 
@@ -13,13 +13,6 @@ two_items [] d h = absurd (cc)
 two_items (x ∷ []) d h = absurd (cc)
 two_items (x ∷ y ∷ []) d h = refl
 two_items (x ∷ y ∷ z ∷ xs) d h = absurd (omega arith)
-
-both_true : (a b : Bool) → (a && b) ≡ true → (a ≡ true) × (b ≡ true)
-both_true true b h = (refl, h)
-both_true false b h = cc
-
-same_number : (n m : ℕ) → (n == m) ≡ true → n ≡ m
-same_number n m h = grind (arith, nat_tests)
 
 all_bits : (token : List ℕ) → length token ≡ 32 → list_all is_bit token ≡ true → number_of fixed_digit token ≡ 4294967295
 all_bits token h k =
@@ -31,8 +24,8 @@ all_bits token h k =
 pub pattern_read : (line indent : ℕ) (tokens : List (List ℕ)) (name token : List ℕ) (bits : ℕ) → indent ≡ 0 → tokens ≡ name ∷ token ∷ [] → is_name name ≡ true → is_bits token ≡ true → bits ≡ number_of bit_digit token
     → Some (record { name = name; file = 0; line = line; count = 32; mask = 4294967295; bits = bits }) ≡ pattern_of (record { line = line; indent = indent; tokens = tokens })
 pattern_read line indent tokens name token bits zero_is two named are_bits is =
-    let p = both_true (length token == 32) (list_all is_bit token) are_bits in
-    let long : length token ≡ 32 = same_number (length token) 32 p.0 in
+    let p = and_parts (length token == 32) (list_all is_bit token) are_bits in
+    let long : length token ≡ 32 = eqb-true (length token) 32 p.0 in
     let mask : number_of fixed_digit token ≡ 4294967295 = all_bits token long p.1 in
     let made : ℕ → ℕ → ℕ → Option Pattern = λ n m b. Some (record { name = name; file = 0; line = line; count = n; mask = m; bits = b }) in
     ap (made 32 4294967295) is ∙ ap (λ m. made 32 m (number_of bit_digit token)) (sym mask) ∙ ap (λ n. made n (number_of fixed_digit token) (number_of bit_digit token)) (sym long)

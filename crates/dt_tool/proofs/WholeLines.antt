@@ -1,48 +1,20 @@
 -- The patterns of a file fix each bit of their word.
-use Rattle.std.proofs.Common.{get_or, ℕ, zero, suc, ◌≡◌, ◌+◌, ◌-◌, ◌*◌, ◌^◌, ◌<◌, ◌≤◌, List, ◌∷◌, [], length, refl, sym, ◌∙◌, subst, arith, inl, inr, true}
+use Rattle.std.proofs.Common.{get_or, ℕ, zero, suc, ◌≡◌, ◌+◌, ◌-◌, ◌^◌, ◌<◌, List, ◌∷◌, [], length, refl, sym, ◌∙◌, subst, arith, inl, inr, true}
 use Rattle.std.specs.Prelude.{◌==◌, ◌&&◌, All, Option, Some, None, filter_map}
 use Rattle.std.specs.List.{list_all, cons_option}
-use Rattle.std.proofs.Math.Nat.{pow-succ'}
 use Rattle.std.proofs.lemmas.Bool.{cases_Bool, cond-true, cond-false, and_parts, eqb-true}
 use Rattle.dt_values.specs.Names.{is_name}
 use Rattle.dt_lines.specs.Lines.{Line, logical_lines}
 use Rattle.dt_tool.specs.Patterns.{Pattern, is_bit, fixed_digit, bit_digit, number_of, is_bits, pattern_in, pattern_of, flat_list}
 use Rattle.dt_tool.specs.Knots.{IsWhole}
-
-digit_fixed : (b : ℕ) → is_bit b ≡ true → fixed_digit b ≡ 1
-digit_fixed b t = cond-true (is_bit b) 1 0 t
-
-digit_low : (b : ℕ) → bit_digit b ≤ 1
-digit_low b = elim (cases_Bool (b == 49)) [
-  | inl t ↦ omega (arith, cond-true {A = ℕ} (b == 49) 1 0 t)
-  | inr f ↦ omega (arith, cond-false {A = ℕ} (b == 49) 1 0 f)
-]
-
-mask_full : (bs : List ℕ) → list_all is_bit bs ≡ true → number_of fixed_digit bs + 1 ≡ 2 ^ length bs
-mask_full [] t = refl
-mask_full (b ∷ bs) t =
-    let parts = and_parts (is_bit b) (list_all is_bit bs) t in
-    let here : fixed_digit b ≡ 1 = digit_fixed b parts.0 in
-    let rest : number_of fixed_digit bs + 1 ≡ 2 ^ length bs = mask_full bs parts.1 in
-    let twice : 2 ^ suc (length bs) ≡ 2 * 2 ^ length bs = pow-succ' 2 (length bs) in
-    rw here (omega arith)
-
-bits_low : (bs : List ℕ) → number_of bit_digit bs < 2 ^ length bs
-bits_low [] = omega arith
-bits_low (b ∷ bs) =
-    let rest : number_of bit_digit bs < 2 ^ length bs = bits_low bs in
-    let twice : 2 ^ suc (length bs) ≡ 2 * 2 ^ length bs = pow-succ' 2 (length bs) in
-    elim (cases_Bool (b == 49)) [
-      | inl t ↦ rw (cond-true {A = ℕ} (b == 49) 1 0 t) (omega arith)
-      | inr f ↦ rw (cond-false {A = ℕ} (b == 49) 1 0 f) (omega arith)
-    ]
+use Rattle.dt_tool.proofs.BinaryNumbers.{bit_digit_small, full_mask, number_below}
 
 token_whole : (token : List ℕ) → is_bits token ≡ true → (number_of fixed_digit token ≡ 2 ^ 32 - 1) × (number_of bit_digit token < 2 ^ 32)
 token_whole token t =
     let parts = and_parts (length token == 32) (list_all is_bit token) t in
     let long : length token ≡ 32 = eqb-true (length token) 32 parts.0 in
-    let full : number_of fixed_digit token + 1 ≡ 2 ^ 32 = subst (λ (n : ℕ). number_of fixed_digit token + 1 ≡ 2 ^ n) long (mask_full token parts.1) in
-    let low : number_of bit_digit token < 2 ^ 32 = subst (λ (n : ℕ). number_of bit_digit token < 2 ^ n) long (bits_low token) in
+    let full : number_of fixed_digit token + 1 ≡ 2 ^ 32 = subst (λ (n : ℕ). number_of fixed_digit token + 1 ≡ 2 ^ n) long (full_mask token parts.1) in
+    let low : number_of bit_digit token < 2 ^ 32 = subst (λ (n : ℕ). number_of bit_digit token < 2 ^ n) long (number_below bit_digit bit_digit_small token) in
     (omega arith, low)
 
 none_some : (p : Pattern) → None ≡ Some p → IsWhole p

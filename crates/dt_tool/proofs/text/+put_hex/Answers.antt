@@ -1,5 +1,5 @@
 use Rattle.std.proofs.Common.{sym, arith, append-nil}
-use Rattle.dt_tool.proofs.Digits.{hex_zero, hex_push}
+use Rattle.c_subset.proofs.Digits.{hex_zero, hex_push}
 use Rattle.dt_tool.proofs.text.+put_hex.Goals as goal
 
 pub returns-then-digits-eq0 : goal.returns-then-digits-eq0
