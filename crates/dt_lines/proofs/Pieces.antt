@@ -1,5 +1,5 @@
 -- Pieces of a text between its white space, and of a file between its LFs, one more at a time.
-use Rattle.std.proofs.Common.{◌≡◌, ℕ, ◌+◌, ◌-◌, ◌<◌, ◌≤◌, List, [], ◌∷◌, ◌++◌, length, get_or, take, drop, true, false, refl, ap, sym, ◌∙◌, arith, append_assoc, append-nil, inl, inr, subst}
+use Rattle.std.proofs.Common.{◌≡◌, ℕ, ◌+◌, ◌-◌, ◌<◌, ◌≤◌, List, [], ◌∷◌, ◌++◌, length, get_or, take, drop, Bool, true, false, refl, ap, sym, ◌∙◌, arith, append_assoc, append-nil, inl, inr, subst}
 use Rattle.std.specs.Prelude.{flat_map, All}
 use Rattle.std.specs.List.{between, slice_split}
 use Rattle.std.proofs.Math.Seq.{take-add}
@@ -9,7 +9,7 @@ use Rattle.std.proofs.lemmas.List.Elements.{All-same, All-push, All-nil}
 use Rattle.std.proofs.lemmas.List.Splits.{slice_split_at, slice_split_none, length-slice_split}
 use Rattle.std.proofs.lemmas.Bool.{cases_lt}
 use Rattle.std.proofs.lemmas.Slice.{between_to_end}
-use Rattle.dt_lines.specs.Lines.{is_newline, is_white, not_empty, tokens, without_empty_end, physical_lines, indentation, line_of, lines_from, Line}
+use Rattle.dt_lines.specs.Lines.{is_newline, is_white, not_empty, tokens, without_empty_end, physical_lines}
 
 -- a part of a list, cut at an element
 pub between_cut : {X : Type 0} → (xs : List X) (s i e : ℕ) (d : X) → s ≤ i → i < e → e ≤ length xs → between s e xs ≡ between s i xs ++ (get_or xs i d ∷ between (i + 1) e xs)
@@ -61,35 +61,39 @@ not_nil (b ∷ text) h = refl
 pub physical_line_last : (text : List ℕ) → 0 < length text → All (λ x. is_newline x ≡ false) text → physical_lines text ≡ text ∷ []
 physical_line_last text some none = ap without_empty_end (slice_split_none is_newline text none) ∙ not_nil text some
 
--- the lines from a place on begin with the one up to the next LF, or to the end
-pub lines_at : (bytes : List ℕ) (at end number : ℕ) → at ≤ end → end ≤ length bytes → at < length bytes
+-- what lies from a place on, cut at an element
+pub drop_cut : {X : Type 0} → (xs : List X) (s i : ℕ) (d : X) → s ≤ i → i < length xs → drop s xs ≡ between s i xs ++ (get_or xs i d ∷ drop (i + 1) xs)
+drop_cut {X} xs s i d h k =
+    sym (between_to_end xs s (length xs) (omega arith)) ∙ between_cut xs s i (length xs) d h k (omega arith)
+    ∙ ap (λ ys. between s i xs ++ (get_or xs i d ∷ ys)) (between_to_end xs (i + 1) (length xs) (omega arith))
+
+-- the physical lines from a place on begin with the one up to the next LF, or to the end
+pub physical_more : (bytes : List ℕ) (at end : ℕ) → at ≤ end → end ≤ length bytes → at < length bytes
     → All (λ x. is_newline x ≡ false) (between at end bytes) → (end < length bytes → get_or bytes end 0 ≡ 10)
-    → lines_from number (physical_lines (drop at bytes)) ≡ line_of number (indentation (between at end bytes)) (tokens (between at end bytes)) ++ lines_from (number + 1) (physical_lines (drop (end + 1) bytes))
-lines_at bytes at end number h k l none ends =
+    → physical_lines (drop at bytes) ≡ between at end bytes ∷ physical_lines (drop (end + 1) bytes)
+physical_more bytes at end h k l none ends =
     elim (cases_lt end (length bytes)) [
       | inl m ↦
           let whole : drop at bytes ≡ between at end bytes ++ (10 ∷ drop (end + 1) bytes) =
-          sym (between_to_end bytes at (length bytes) (omega arith)) ∙ between_cut bytes at end (length bytes) 0 h m (omega arith)
-          ∙ ap (λ b. between at end bytes ++ (b ∷ between (end + 1) (length bytes) bytes)) (ends m)
-          ∙ ap (λ ys. between at end bytes ++ (10 ∷ ys)) (between_to_end bytes (end + 1) (length bytes) (omega arith)) in
-          ap (λ ys. lines_from number (physical_lines ys)) whole ∙ ap (lines_from number) (physical_line_at (between at end bytes) (drop (end + 1) bytes) none)
+          drop_cut bytes at end 0 h m ∙ ap (λ b. between at end bytes ++ (b ∷ drop (end + 1) bytes)) (ends m) in
+          ap physical_lines whole ∙ physical_line_at (between at end bytes) (drop (end + 1) bytes) none
       | inr m ↦
           let whole : drop at bytes ≡ between at end bytes = sym (between_to_end bytes at end m) in
           let some : 0 < length (between at end bytes) = omega (arith, length-between bytes at end k) in
           let rest : drop (end + 1) bytes ≡ [] = drop_all (end + 1) bytes (omega arith) in
-          ap (λ ys. lines_from number (physical_lines ys)) whole ∙ ap (lines_from number) (physical_line_last (between at end bytes) some none)
-          ∙ ap (λ ys. line_of number (indentation (between at end bytes)) (tokens (between at end bytes)) ++ lines_from (number + 1) (physical_lines ys)) (sym rest)
+          ap physical_lines whole ∙ physical_line_last (between at end bytes) some none
+          ∙ ap (λ ys. between at end bytes ∷ physical_lines ys) (sym rest)
     ]
 
--- one byte more that isn't white space
-pub word_more : (bytes : List ℕ) (s i d : ℕ) → s ≤ i → i < length bytes → All (λ x. is_white x ≡ false) (between s i bytes) → is_white (get_or bytes i d) ≡ false → All (λ x. is_white x ≡ false) (between s (i + 1) bytes)
-word_more bytes s i d h k none white =
-    let P : ℕ → Type 0 = λ x. is_white x ≡ false in
-    All-same P (between s (i + 1) bytes) (between s i bytes ++ get_or bytes i d ∷ []) (between_more bytes s i d h k) (All-push P (between s i bytes) (get_or bytes i d) none white)
+-- one byte more that doesn't pass
+pub none_more : (p : ℕ → Bool) (bytes : List ℕ) (s i d : ℕ) → s ≤ i → i < length bytes → All (λ x. p x ≡ false) (between s i bytes) → p (get_or bytes i d) ≡ false → All (λ x. p x ≡ false) (between s (i + 1) bytes)
+none_more p bytes s i d h k none fails =
+    let P : ℕ → Type 0 = λ x. p x ≡ false in
+    All-same P (between s (i + 1) bytes) (between s i bytes ++ get_or bytes i d ∷ []) (between_more bytes s i d h k) (All-push P (between s i bytes) (get_or bytes i d) none fails)
 
 -- no byte yet
-pub word_none : (bytes : List ℕ) (i : ℕ) → All (λ x. is_white x ≡ false) (between i i bytes)
-word_none bytes i = let P : ℕ → Type 0 = λ x. is_white x ≡ false in All-same P (between i i bytes) [] (between_none bytes i) (All-nil P)
+pub none_yet : (p : ℕ → Bool) (bytes : List ℕ) (i : ℕ) → All (λ x. p x ≡ false) (between i i bytes)
+none_yet p bytes i = let P : ℕ → Type 0 = λ x. p x ≡ false in All-same P (between i i bytes) [] (between_none bytes i) (All-nil P)
 
 -- the last token of a line
 pub tokens_end : (bytes : List ℕ) (s i e : ℕ) (before after whole : List (List ℕ)) → e ≤ i → i ≤ e
@@ -98,13 +102,3 @@ tokens_end bytes s i e before after whole h k none all is =
     let P : ℕ → Type 0 = λ n. All (λ x. is_white x ≡ false) (between s n bytes) in
     let same : i ≡ e = omega arith in
     is ∙ ap (λ ts. before ++ ts) (sym (tokens_last (between s e bytes) (subst P same none))) ∙ all
-
--- one physical line more
-pub line_more : (bytes : List ℕ) (at end number : ℕ) (before after : List Line) → at ≤ end → end ≤ length bytes → at < length bytes
-    → All (λ x. is_newline x ≡ false) (between at end bytes) → (end < length bytes → get_or bytes end 0 ≡ 10)
-    → after ≡ before ++ line_of (number + 1) (indentation (between at end bytes)) (tokens (between at end bytes))
-    → after ++ lines_from (number + 1 + 1) (physical_lines (drop (end + 1) bytes)) ≡ before ++ lines_from (number + 1) (physical_lines (drop at bytes))
-line_more bytes at end number before after h k l none ends is =
-    ap (λ ls. ls ++ lines_from (number + 1 + 1) (physical_lines (drop (end + 1) bytes))) is
-    ∙ append_assoc before (line_of (number + 1) (indentation (between at end bytes)) (tokens (between at end bytes))) (lines_from (number + 1 + 1) (physical_lines (drop (end + 1) bytes)))
-    ∙ ap (λ ls. before ++ ls) (sym (lines_at bytes at end (number + 1) h k l none ends))

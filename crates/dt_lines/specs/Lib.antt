@@ -1,2 +1,4 @@
 pub mod Lines
 pub mod Spans
+pub mod Faults
+pub mod Gathering

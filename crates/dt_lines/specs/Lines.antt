@@ -1,6 +1,7 @@
--- The logical lines of a pattern file: after docs/devel/decodetree.rst and the line reading of scripts/decodetree.py, for files without comments and continuations (docs/LANGUAGE.md).
-use Rattle.std.specs.Prelude.{ℕ, ◌+◌, ◌*◌, ◌/◌, ◌==◌, ◌||◌, Bool, true, false, List, [], ◌∷◌, ◌++◌, flat_map, if◌then◌else◌}
-use Rattle.std.specs.List.{slice_split}
+-- The logical lines of a pattern file, after docs/devel/decodetree.rst and the line reading of scripts/decodetree.py.
+use Rattle.std.specs.Prelude.{ℕ, ◌+◌, ◌-◌, ◌*◌, ◌/◌, ◌==◌, ◌||◌, Bool, true, false, List, [], ◌∷◌, ◌++◌, length, take, nat_eq, flat_map, if◌then◌else◌}
+use Rattle.std.specs.List.{slice_split, before_first, list_all}
+use Rattle.std.specs.Cmp.Lexicographic.{pointwise}
 
 -- a line's end: LF
 abbrev pub is_newline : ℕ → Bool
@@ -33,6 +34,21 @@ not_empty (b ∷ bs) = (b ∷ bs) ∷ []
 abbrev pub tokens : List ℕ → List (List ℕ)
 tokens text = flat_map not_empty (slice_split is_white text)
 
+-- a comment begins at `#`
+abbrev pub is_comment_mark : ℕ → Bool
+is_comment_mark b = b == 35
+
+abbrev pub before_comment : List ℕ → List ℕ
+before_comment text = before_first is_comment_mark text
+
+-- the tokens of a physical line
+abbrev pub line_tokens : List ℕ → List (List ℕ)
+line_tokens text = tokens (before_comment text)
+
+-- nothing, or white space alone
+abbrev pub is_blank : List ℕ → Bool
+is_blank text = list_all is_white text
+
 -- a tab moves to the next column that is a multiple of eight
 abbrev pub next_column : ℕ → ℕ → ℕ
 next_column column b = if b == 9 then (column / 8 + 1) * 8 else column + 1
@@ -52,15 +68,43 @@ pub record Line : Type 0 where
   pub indent : ℕ
   pub tokens : List (List ℕ)
 
--- a line without tokens is no logical line
-abbrev pub line_of : ℕ → ℕ → List (List ℕ) → List Line
-line_of number indent [] = []
-line_of number indent (token ∷ more) = record { line = number; indent = indent; tokens = token ∷ more } ∷ []
+-- the token that stands last on a line which the next one continues
+abbrev pub is_backslash : List ℕ → Bool
+is_backslash token = pointwise nat_eq token (92 ∷ [])
 
--- the logical lines among physical ones, of which the first has this number
-abbrev pub lines_from : ℕ → List (List ℕ) → List Line
-lines_from number [] = []
-lines_from number (text ∷ texts) = line_of number (indentation text) (tokens text) ++ lines_from (number + 1) texts
+abbrev pub ends_in_backslash : List (List ℕ) → Bool
+ends_in_backslash [] = false
+ends_in_backslash (token ∷ []) = is_backslash token
+ends_in_backslash (token ∷ next ∷ more) = ends_in_backslash (next ∷ more)
+
+abbrev pub without_last : List (List ℕ) → List (List ℕ)
+without_last tokens = take (length tokens - 1) tokens
+
+-- the first where there are tokens, else the second
+abbrev pub if_tokens : {A : Type 0} → List (List ℕ) → A → A → A
+if_tokens [] some none = none
+if_tokens (token ∷ more) some none = some
+
+-- a line goes on behind a last backslash, unless no token is left: then the next line begins anew. Else it ends
+abbrev pub end_or_go_on : Line → List Line → (Line → List Line) → List Line
+end_or_go_on line anew go_on =
+    if ends_in_backslash line.tokens
+    then if_tokens (without_last line.tokens) (go_on (record line { tokens = without_last line.tokens })) anew
+    else line ∷ anew
+
+abbrev mutual
+  -- the logical lines among physical ones, of which the first has this number: a blank line is none
+  pub lines_from : ℕ → List (List ℕ) → List Line
+  lines_from number [] = []
+  lines_from number (text ∷ texts) =
+      if is_blank text then lines_from (number + 1) texts
+      else end_or_go_on (record { line = number; indent = indentation text; tokens = line_tokens text }) (lines_from (number + 1) texts) (λ line. continued line (number + 1) texts)
+
+  -- where a line goes on in them: with the tokens of the first, which may have none
+  pub continued : Line → ℕ → List (List ℕ) → List Line
+  continued line number [] = line ∷ []
+  continued line number (text ∷ texts) =
+      end_or_go_on (record line { tokens = line.tokens ++ line_tokens text }) (lines_from (number + 1) texts) (λ longer. continued longer (number + 1) texts)
 
 abbrev pub logical_lines : List ℕ → List Line
 logical_lines bytes = lines_from 1 (physical_lines bytes)

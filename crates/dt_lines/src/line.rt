@@ -42,8 +42,9 @@ impl Tokens {
     }
 }
 
-/// A line that has tokens: the place of its file among all files, from 0, its number in the file, from 1,
-/// the column of its first token, from 0, and its tokens.
+/// A logical line: the place of its file among all files, from 0; the number of its first physical line in the file,
+/// from 1; the column of the first byte there that isn't white space, from 0; its tokens. A comment alone is a line
+/// without tokens.
 #[derive(Debug, Drop)]
 pub struct Logical {
     pub file: u16,

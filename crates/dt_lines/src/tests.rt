@@ -1,41 +1,144 @@
-//! Logical lines by example, and each public call once.
-
 use crate::scan::{LARGEST_FILE, logical};
-use crate::{Span, Tokens};
+use crate::{LineFault, Logical, Span, Tokens, line_count};
+use std::alloc::{AllocError, Global};
 use std::test::Fail;
+
+// A line as it should be: its number, its indentation and its tokens.
+type Row<'a> = (u32, u32, &'a [&'a [u8]]);
+
+fn is_row(bytes: &[u8], line: &Logical, row: Row<'_>) -> bool {
+    let (number, indent, tokens) = row;
+    if line.line != number || line.indent != indent || line.tokens.items().len() != tokens.len() {
+        return false;
+    }
+    for (span, token) in line.tokens.items().iter().zip(tokens) {
+        if bytes.get(span.start as usize..span.end as usize) != Some(*token) {
+            return false;
+        }
+    }
+    true
+}
 
 #[test]
 fn lines_have_numbers_columns_and_tokens(rt: HostRuntime) -> Result<(), Fail> {
-    let bytes = b"a 01\n\n \t b\x0b\x0cc\r\n\t\n        d#e".as_slice();
-    let lines = logical(rt.alloc(), 3, bytes)?;
-    let table: [(u32, u32, &[&[u8]]); 3] = [
-        (1, 0, &[b"a", b"01"]),
-        (3, 9, &[b"b", b"c"]),
-        (5, 8, &[b"d#e"]),
+    let table: [(&[u8], &[Row<'_>]); 13] = [
+        (
+            b"a 01\n\n \t b\x0b\x0cc\r\n\t\n        d;e",
+            &[
+                (1, 0, &[b"a", b"01"]),
+                (3, 9, &[b"b", b"c"]),
+                (5, 8, &[b"d;e"]),
+            ],
+        ),
+        (
+            b"%f 0:4 \\\n# note\n%g 4:4\np ------------------------ ........ \\\n%f %g \\\n",
+            &[
+                (1, 0, &[b"%f", b"0:4"]),
+                (3, 0, &[b"%g", b"4:4"]),
+                (
+                    4,
+                    0,
+                    &[b"p", b"------------------------", b"........", b"%f", b"%g"],
+                ),
+            ],
+        ),
+        (b"a \\ # x\nb", &[(1, 0, &[b"a", b"b"])]),
+        (b"\\\nb", &[(2, 0, &[b"b"])]),
+        (b"\\\n\n # c\n", &[(3, 1, &[])]),
+        (b"  # note\n", &[(1, 2, &[])]),
+        (b"\ta", &[(1, 8, &[b"a"])]),
+        (b" a#b c", &[(1, 1, &[b"a"])]),
+        (b"a \\\n\nb", &[(1, 0, &[b"a"]), (3, 0, &[b"b"])]),
+        (b"a \\ \\\n\nb", &[(1, 0, &[b"a", b"b"])]),
+        (b"a\\\nb", &[(1, 0, &[b"a\\"]), (2, 0, &[b"b"])]),
+        (b"  a \\", &[(1, 2, &[b"a"])]),
+        (b"", &[]),
     ];
-    assert_eq!(rt; lines.len(), table.len());
-    for (line, (number, indent, tokens)) in lines.iter().zip(table) {
-        assert_eq!(rt; (line.file, line.line, line.indent), (3, number, indent));
-        assert_eq!(rt; line.tokens.items().len(), tokens.len());
-        for (span, token) in line.tokens.items().iter().zip(tokens) {
-            assert_eq!(rt;
-                bytes.get(span.start as usize..span.end as usize),
-                Some(*token)
-            );
+    for (bytes, rows) in table {
+        let lines = logical(rt.alloc(), 3, bytes)?;
+        assert_eq!(rt; lines.len(), rows.len());
+        for (line, row) in lines.iter().zip(rows) {
+            assert_eq!(rt; line.file, 3);
+            assert!(rt; is_row(bytes, line, *row));
         }
     }
     Ok(())
 }
 
+// So many bytes of a name, between two texts.
+fn with_name(
+    alloc: Global,
+    before: &[u8],
+    length: usize,
+    after: &[u8],
+) -> Result<Vec<u8>, AllocError> {
+    let mut bytes = Vec::new(alloc);
+    bytes.extend_from_slice(before)?;
+    bytes.extend_from_slice(vec![in alloc; b'n'; length]?.as_slice())?;
+    bytes.extend_from_slice(after)?;
+    Ok(bytes)
+}
+
+// The fault of a file that is small enough to be read.
+fn fault_of(alloc: Global, bytes: &[u8]) -> Option<LineFault> {
+    if bytes.len() > LARGEST_FILE {
+        return None;
+    }
+    logical(alloc, 0, bytes).err()
+}
+
+#[test]
+fn a_long_name_is_told_by_its_line(rt: HostRuntime) -> Result<(), Fail> {
+    let table: [(&[u8], usize, &[u8], Option<LineFault>); 7] = [
+        (
+            b"a \\\n\\\nb ",
+            129,
+            b" \\\nc",
+            Some(LineFault::LongName(3)),
+        ),
+        (b"a \\\n\\\nb #", 129, b" \\\nc", None),
+        (b"", 129, b"", Some(LineFault::LongName(1))),
+        (b"\n-", 129, b"\n", Some(LineFault::LongName(2))),
+        (b"", 128, b"", None),
+        (b"x:", 128, b"", None),
+        (b"", 128, b":n", None),
+    ];
+    for (before, length, after, fault) in table {
+        let bytes = with_name(rt.alloc(), before, length, after)?;
+        assert_eq!(rt; fault_of(rt.alloc(), bytes.as_slice()), fault);
+    }
+    Ok(())
+}
+
+#[test]
+fn a_file_has_65_535_lines_at_most(rt: HostRuntime) -> Result<(), Fail> {
+    let mut bytes = vec![in rt.alloc(); b'\n'; 65_534]?;
+    bytes.push(b'a')?;
+    assert_eq!(rt; line_count(bytes.as_slice()), 65_535);
+    let lines = logical(rt.alloc(), 0, bytes.as_slice())?;
+    assert_eq!(rt; lines.len(), 1);
+    assert_eq!(rt; lines[0].line, 65_535);
+    bytes.extend_from_slice(b"\n")?;
+    assert_eq!(rt; line_count(bytes.as_slice()), 65_535);
+    assert_eq!(rt; fault_of(rt.alloc(), bytes.as_slice()), None);
+    let name = vec![in rt.alloc(); b'n'; 129]?;
+    bytes.extend_from_slice(name.as_slice())?;
+    assert_eq!(rt; line_count(bytes.as_slice()), 65_536);
+    assert_eq!(rt;
+        fault_of(rt.alloc(), bytes.as_slice()),
+        Some(LineFault::TooManyLines)
+    );
+    Ok(())
+}
+
 #[test]
 fn a_file_of_the_largest_size_is_read(rt: HostRuntime) -> Result<(), Fail> {
-    let bytes = vec![in rt.alloc(); b'\n'; LARGEST_FILE - 1]?;
-    let mut bytes = bytes;
+    let mut bytes = vec![in rt.alloc(); b' '; LARGEST_FILE - 1]?;
     bytes.push(b'a')?;
     assert_eq!(rt; bytes.len(), LARGEST_FILE);
     let lines = logical(rt.alloc(), 0, bytes.as_slice())?;
     assert_eq!(rt; lines.len(), 1);
-    assert_eq!(rt; lines[0].line, 4_194_304);
+    assert_eq!(rt; lines[0].indent, 4_194_303);
     Ok(())
 }
 

@@ -1,13 +1,13 @@
 -- The patterns of a flat list are sound.
-use Rattle.std.proofs.Common.{◌≡◌, ℕ, ◌+◌, ◌*◌, ◌<◌, ◌≤◌, ◌^◌, ◌==◌, ◌&&◌, ◌||◌, List, [], ◌∷◌, length, Bool, true, false, cond, Option, Some, None, refl, ap, ◌∙◌, arith, subst, bit_and}
+use Rattle.std.proofs.Common.{◌≡◌, ℕ, ◌+◌, ◌*◌, ◌<◌, ◌≤◌, ◌^◌, ◌==◌, ◌&&◌, ◌||◌, List, [], ◌∷◌, ◌++◌, length, Bool, true, false, cond, Option, Some, None, refl, ap, ◌∙◌, arith, subst, bit_and}
 use Rattle.std.specs.Prelude.{IsTrue, IfSome, if◌then◌else◌}
 use Rattle.std.specs.List.{All, slice_split, onto_first, cons_option}
 use Rattle.std.proofs.lemmas.Nat.{and_block}
 use Rattle.std.proofs.lemmas.Bool.Decides.{nat_tests}
-use Rattle.std.proofs.lemmas.List.Elements.{All-head, All-tail, All-nil, All-cons, All-append}
+use Rattle.std.proofs.lemmas.List.Elements.{All-head, All-tail, All-nil, All-cons}
 use Rattle.std.proofs.lemmas.List.Splits.{length-slice_split}
 use Rattle.dt_values.specs.Names.{is_name}
-use Rattle.dt_lines.specs.Lines.{Line, is_newline, without_empty_end, physical_lines, indentation, tokens, line_of, lines_from, logical_lines}
+use Rattle.dt_lines.specs.Lines.{Line, is_newline, without_empty_end, physical_lines, indentation, line_tokens, is_blank, ends_in_backslash, without_last, if_tokens, lines_from, continued, logical_lines}
 use Rattle.c_subset.proofs.Bytes.{both_true}
 use Rattle.dt_tool.specs.Patterns.{Pattern, is_bit, is_bits, fixed_digit, bit_digit, number_of, pattern_in, pattern_of, patterns_of, flat_list}
 use Rattle.dt_tool.specs.Sound.{IsSound, AreSound}
@@ -72,13 +72,38 @@ lines_sound [] h = All-nil IsSound
 lines_sound (l ∷ lines) h = kept (pattern_of l) (patterns_of lines) (not_indented (l.indent == 0) _ (sound_in l.line l.tokens (All-head (λ l. l.line < 2 ^ 32) l lines h))) (lines_sound lines (All-tail (λ l. l.line < 2 ^ 32) l lines h))
 
 -- the lines' numbers
-line_below : (number indent : ℕ) (tokens : List (List ℕ)) → number < 2 ^ 32 → All (λ l. l.line < 2 ^ 32) (line_of number indent tokens)
-line_below number indent [] h = All-nil (λ l. l.line < 2 ^ 32)
-line_below number indent (token ∷ more) h = All-cons (λ l. l.line < 2 ^ 32) _ [] h (All-nil (λ l. l.line < 2 ^ 32))
+abbrev IsBelow : Line → Type 0
+IsBelow l = l.line < 2 ^ 32
 
-lines_below : (number : ℕ) (texts : List (List ℕ)) → number + length texts ≤ 2 ^ 32 → All (λ l. l.line < 2 ^ 32) (lines_from number texts)
-lines_below number [] h = All-nil (λ l. l.line < 2 ^ 32)
-lines_below number (text ∷ texts) h = All-append (λ l. l.line < 2 ^ 32) _ _ (line_below number (indentation text) (tokens text) (omega arith)) (lines_below (number + 1) texts (omega arith))
+chosen : (test : Bool) (kept : List (List ℕ)) (some none ended : List Line) → All IsBelow some → All IsBelow none → All IsBelow ended → All IsBelow (if test then if_tokens kept some none else ended)
+chosen true [] some none ended h k l = k
+chosen true (token ∷ more) some none ended h k l = h
+chosen false kept some none ended h k l = l
+
+blank_or : (test : Bool) (skipped line : List Line) → All IsBelow skipped → All IsBelow line → All IsBelow (if test then skipped else line)
+blank_or true skipped line h k = h
+blank_or false skipped line h k = k
+
+mutual
+  lines_below : (number : ℕ) (texts : List (List ℕ)) → number + length texts ≤ 2 ^ 32 → All IsBelow (lines_from number texts)
+  lines_below number [] h = All-nil IsBelow
+  lines_below number (text ∷ texts) h =
+      let line : Line = record { line = number; indent = indentation text; tokens = line_tokens text } in
+      let longer : Line = record line { tokens = without_last line.tokens } in
+      let below : number < 2 ^ 32 = omega arith in
+      let less : number + 1 + length texts ≤ 2 ^ 32 = omega arith in
+      let anew : All IsBelow (lines_from (number + 1) texts) = lines_below (number + 1) texts less in
+      blank_or (is_blank text) _ _ anew
+      (chosen (ends_in_backslash line.tokens) (without_last line.tokens) _ _ _ (continued_below longer (number + 1) texts below less) anew (All-cons IsBelow line (lines_from (number + 1) texts) below anew))
+
+  continued_below : (line : Line) (number : ℕ) (texts : List (List ℕ)) → line.line < 2 ^ 32 → number + length texts ≤ 2 ^ 32 → All IsBelow (continued line number texts)
+  continued_below line number [] h k = All-cons IsBelow line [] h (All-nil IsBelow)
+  continued_below line number (text ∷ texts) h k =
+      let more : Line = record line { tokens = line.tokens ++ line_tokens text } in
+      let longer : Line = record more { tokens = without_last more.tokens } in
+      let less : number + 1 + length texts ≤ 2 ^ 32 = omega arith in
+      let anew : All IsBelow (lines_from (number + 1) texts) = lines_below (number + 1) texts less in
+      chosen (ends_in_backslash more.tokens) (without_last more.tokens) _ _ _ (continued_below longer (number + 1) texts h less) anew (All-cons IsBelow more (lines_from (number + 1) texts) h anew)
 
 -- no more physical lines than bytes
 one_byte_more : (test : Bool) (b : ℕ) (pieces : List (List ℕ)) (n : ℕ) → 0 < length pieces → length (without_empty_end pieces) ≤ n → length (without_empty_end (cond test ([] ∷ pieces) (onto_first b pieces))) ≤ n + 1

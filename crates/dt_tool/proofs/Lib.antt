@@ -1,6 +1,7 @@
 pub mod BinaryNumbers
 pub mod Reading
 pub mod Saying
+pub mod Refusing
 pub mod Contents
 pub mod Decoding
 pub mod Notes

@@ -3,6 +3,8 @@ use Rattle.std.specs.Prelude.{◌≡◌, ℕ, nat_lt, List, [], ◌∷◌, lengt
 use Rattle.std.specs.FinMap as map
 use Rattle.dt_io.specs.Files.{Files}
 use Rattle.dt_lines.specs.Lines.{logical_lines}
+use Rattle.dt_lines.specs.Faults as faults
+use Rattle.dt_lines.specs.Faults.{FileFault, line_fault}
 use Rattle.dt_tool.specs.Words.{file_named}
 use Rattle.dt_tool.specs.Patterns.{Pattern, first_broken, flat_list}
 use Rattle.dt_tool.specs.Overlaps.{first_overlap_of}
@@ -13,9 +15,11 @@ use Rattle.dt_tool.specs.Messages as said
 abbrev pub limit : ℕ
 limit = 4194304
 
--- the first broken rule of a file: the line of the least that is no pattern, or else the members of the first knot (the laws `law_first_overlap` and `law_whole_lines` tie them to the definition of knots); or none
+-- the first broken rule of a file: too many lines, or a line with a long name; else the line of the least that is no pattern, or else the members of the first knot (the laws `law_first_overlap` and `law_whole_lines` tie them to the definition of knots); or none
 pub data Verdict : Type 0 where
   kept : Verdict
+  too_many_lines : Verdict
+  long_name : ℕ → Verdict
   not_built : ℕ → Verdict
   overlapping : List Pattern → Verdict
 
@@ -23,12 +27,17 @@ abbrev pub verdict_of_members : List Pattern → Verdict
 verdict_of_members [] = kept
 verdict_of_members (p ∷ ps) = overlapping (p ∷ ps)
 
-abbrev pub verdict_of : Option ℕ → List Pattern → Verdict
-verdict_of None members = verdict_of_members members
-verdict_of (Some line) members = not_built line
+abbrev pub verdict_of_lines : Option ℕ → List Pattern → Verdict
+verdict_of_lines None members = verdict_of_members members
+verdict_of_lines (Some line) members = not_built line
+
+abbrev pub verdict_of : Option FileFault → Option ℕ → List Pattern → Verdict
+verdict_of None broken members = verdict_of_lines broken members
+verdict_of (Some faults.too_many_lines) broken members = too_many_lines
+verdict_of (Some (faults.long_name line)) broken members = long_name line
 
 abbrev pub verdict : List ℕ → Verdict
-verdict bytes = verdict_of (first_broken (logical_lines bytes)) (first_overlap_of (flat_list bytes))
+verdict bytes = verdict_of (line_fault bytes) (first_broken (logical_lines bytes)) (first_overlap_of (flat_list bytes))
 
 -- the words are no command; the input of this name isn't held; a rule is broken, and this is said; this text is written
 pub data Due : Type 0 where
@@ -39,6 +48,8 @@ pub data Due : Type 0 where
 
 abbrev pub due_of_verdict : List ℕ → List ℕ → Verdict → Due
 due_of_verdict file bytes kept = written (layout (flat_list bytes))
+due_of_verdict file bytes too_many_lines = refused (said.too_many_lines file)
+due_of_verdict file bytes (long_name line) = refused (said.long_name file line)
 due_of_verdict file bytes (not_built line) = refused (said.not_built file line)
 due_of_verdict file bytes (overlapping members) = refused (said.overlapping file members)
 

@@ -20,6 +20,12 @@ too_large file = codes "error: K0 file too large: " ++ (file ++ codes "\n")
 abbrev pub not_built : List ℕ → ℕ → List ℕ
 not_built file line = file ++ (codes ":" ++ (decimal line ++ codes ": error: N2 not built\n"))
 
+abbrev pub too_many_lines : List ℕ → List ℕ
+too_many_lines file = file ++ codes ":65536: error: K1 too many lines\n"
+
+abbrev pub long_name : List ℕ → ℕ → List ℕ
+long_name file line = file ++ (codes ":" ++ (decimal line ++ codes ": error: K2 long name\n"))
+
 -- a line about a pattern that overlaps others
 abbrev pub overlap_line : List ℕ → List ℕ → Pattern → List ℕ
 overlap_line file kind p = file ++ (codes ":" ++ (decimal p.line ++ (codes ": " ++ (kind ++ (codes ": H2 overlapping: " ++ (p.name ++ codes "\n"))))))

@@ -1,5 +1,5 @@
 -- The patterns of a file, in file order: docs/devel/decodetree.rst, "Patterns", for lines of a name and 32 bits.
-use Rattle.std.specs.Prelude.{ℕ, ◌+◌, ◌*◌, ◌^◌, ◌==◌, ◌&&◌, ◌||◌, Bool, List, [], ◌∷◌, length, filter_map, find, Option, Some, None, option_map, bit_and, is_none, if◌then◌else◌}
+use Rattle.std.specs.Prelude.{ℕ, ◌+◌, ◌*◌, ◌^◌, ◌==◌, ◌&&◌, ◌||◌, Bool, true, false, not, List, [], ◌∷◌, length, filter_map, find, Option, Some, None, option_map, bit_and, is_none, if◌then◌else◌}
 use Rattle.std.specs.List.{list_all}
 use Rattle.dt_values.specs.Names.{is_name}
 use Rattle.dt_lines.specs.Lines.{Line, logical_lines}
@@ -48,9 +48,21 @@ pattern_in number (name ∷ token ∷ more ∷ rest) = None
 abbrev pub pattern_of : Line → Option Pattern
 pattern_of l = if l.indent == 0 then pattern_in l.line l.tokens else None
 
--- the first line that is no pattern, among these
+abbrev pub is_nil : {A : Type 0} → List A → Bool
+is_nil [] = true
+is_nil (x ∷ xs) = false
+
+-- a comment alone, which isn't indented
+abbrev pub is_comment : Line → Bool
+is_comment l = l.indent == 0 && is_nil l.tokens
+
+-- a line is broken where it is neither a pattern nor a comment alone
+abbrev pub is_broken : Line → Bool
+is_broken l = is_none (pattern_of l) && not (is_comment l)
+
+-- the first broken line among these
 abbrev pub first_broken : List Line → Option ℕ
-first_broken lines = option_map (λ l. l.line) (find (λ l. is_none (pattern_of l)) lines)
+first_broken lines = option_map (λ l. l.line) (find is_broken lines)
 
 abbrev pub patterns_of : List Line → List Pattern
 patterns_of lines = filter_map pattern_of lines

@@ -5,6 +5,8 @@ ghost use Rattle.dt_io.specs.Causes.{Rose};
 ghost use Rattle.dt_io.specs.Files.{Held};
 ghost use Rattle.dt_tool.specs.Words.{file_named, texts};
 ghost use Rattle.dt_lines.specs.Lines.{logical_lines};
+ghost use Rattle.dt_lines.specs.Faults.{line_fault};
+ghost use Rattle.dt_lines.specs.Spans.{AreSpans, line_seen};
 ghost use Rattle.dt_tool.specs.Patterns.{first_broken, flat_list};
 ghost use Rattle.dt_tool.specs.Knots.{IsWhole};
 ghost use Rattle.dt_tool.specs.Overlaps.{first_overlap_of};
@@ -21,6 +23,7 @@ use crate::text::text;
 use crate::words::file_named;
 use dt_io::{Folder, LoadFault, read_all};
 use dt_lines::scan::{LARGEST_FILE, logical};
+use dt_lines::{LineFault, Logical};
 use std::alloc::{AllocError, Global};
 
 /// Why no text is written, with what is said of it.
@@ -88,16 +91,37 @@ fn generate_from(alloc: Global, file: &str, bytes: &[u8]) -> Result<Vec<u8>, Sto
     }
 }
 
+// The logical lines of a file of these bytes.
+fn lines_in(alloc: Global, file: &str, bytes: &[u8]) -> Result<Vec<Logical>, Stop>
+    requires { length bytes.now ≤ LARGEST_FILE }
+    ensures lines { IfOk result (λ lines. map (line_seen bytes.now) lines.items ≡ logical_lines bytes.now) }
+    ensures spans { IfOk result (λ lines. All (λ l. AreSpans (length bytes.now) l.tokens) lines.items) }
+    ensures sound { OnOk result (line_fault bytes.now ≡ None) }
+    ensures stop { IfErr result (λ stop. Refuses stop (due_of_verdict file.now bytes.now (verdict bytes.now))) }
+{
+    match logical(alloc, 0, bytes) {
+        Ok(lines) => Ok(lines),
+        Err(LineFault::TooManyLines) => {
+            return Err(refused(messages::too_many_lines(alloc, file)));
+        }
+        Err(LineFault::LongName(line)) => {
+            return Err(refused(messages::long_name(alloc, file, line)));
+        }
+        Err(LineFault::NoMemory) => {
+            return Err(Stop::NoMemory);
+        }
+    }
+}
+
 // The patterns of a file of these bytes.
 fn patterns_in(alloc: Global, file: &str, bytes: &[u8]) -> Result<Vec<Pattern>, Stop>
     requires { length bytes.now ≤ LARGEST_FILE }
     ensures patterns { IfOk result (λ patterns. map pattern_seen patterns.items ≡ flat_list bytes.now) }
+    ensures sound { OnOk result (line_fault bytes.now ≡ None) }
     ensures kept { OnOk result (first_broken (logical_lines bytes.now) ≡ None) }
     ensures stop { IfErr result (λ stop. Refuses stop (due_of_verdict file.now bytes.now (verdict bytes.now))) }
 {
-    let Ok(lines) = logical(alloc, 0, bytes) else {
-        return Err(Stop::NoMemory);
-    };
+    let lines = lines_in(alloc, file, bytes)?;
     match read_patterns(alloc, bytes, lines.as_slice()) {
         Ok(patterns) => Ok(patterns),
         Err(PatternFault::NotBuilt(line)) => Err(refused(messages::not_built(alloc, file, line))),

@@ -40,6 +40,20 @@ pub fn not_built(alloc: Global, file: &str, line: u32) -> Result<String, AllocEr
     format!(in alloc; "{file}:{line}: error: N2 not built\n")
 }
 
+/// What is said of a file of more than 65,535 lines.
+pub fn too_many_lines(alloc: Global, file: &str) -> Result<String, AllocError>
+    ensures { IfOk result (λ text. string_bytes text ≡ said.too_many_lines file.now) }
+{
+    format!(in alloc; "{file}:65536: error: K1 too many lines\n")
+}
+
+/// What is said of a line with a name of more than 128 bytes.
+pub fn long_name(alloc: Global, file: &str, line: u32) -> Result<String, AllocError>
+    ensures { IfOk result (λ text. string_bytes text ≡ said.long_name file.now line) }
+{
+    format!(in alloc; "{file}:{line}: error: K2 long name\n")
+}
+
 /// What is said of the patterns at these places, which overlap: of the first, and a note for each other.
 pub fn overlapping(
     alloc: Global,

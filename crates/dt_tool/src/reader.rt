@@ -1,10 +1,10 @@
 //! Reads the patterns of a file from its logical lines.
 
-ghost use Rattle.std.specs.Prelude.{◌≡◌, ◌≤◌, length, map, All, IfOk, IfErr, OnOk, None};
+ghost use Rattle.std.specs.Prelude.{◌≡◌, ◌==◌, ◌&&◌, ◌≤◌, length, map, All, IfOk, IfErr, OnOk, None};
 ghost use Rattle.std.specs.Option.{option_map};
 ghost use Rattle.std.specs.List.{list_all};
 ghost use Rattle.dt_lines.specs.Spans.{AreSpans, IsWithin, line_seen, text_at};
-ghost use Rattle.dt_tool.specs.Patterns.{bit_digit, first_broken, is_bit, is_bits, number_of, pattern_of, patterns_of};
+ghost use Rattle.dt_tool.specs.Patterns.{bit_digit, first_broken, is_bit, is_nil, is_bits, number_of, pattern_of, patterns_of};
 ghost use Rattle.dt_tool.specs.View.{BrokenAt, pattern_seen};
 
 use crate::pattern::Pattern;
@@ -40,6 +40,9 @@ pub fn read_patterns(
 {
     let mut patterns = Vec::new(alloc);
     for line in lines {
+        if is_comment(line) {
+            continue;
+        }
         let Some(pattern) = read_pattern(bytes, line) else {
             return Err(PatternFault::NotBuilt(line.line));
         };
@@ -48,6 +51,13 @@ pub fn read_patterns(
         }
     }
     Ok(patterns)
+}
+
+// Whether the line is a comment alone, and isn't indented.
+fn is_comment(line: &Logical) -> bool
+    ensures { result ≡ (line.now.indent == 0 && is_nil line.now.tokens) }
+{
+    line.indent == 0 && line.tokens.items().is_empty()
 }
 
 // The pattern of a line.

@@ -134,7 +134,21 @@ fn files_give_their_text_or_their_first_refusal(rt: HostRuntime) -> Result<(), F
         ("nop 00000000000000000000000000000000 \r\n", 0, NOP_TEXT, ""),
         ("a 000\n", 1, "", "t:1: error: N2 not built\n"),
         ("a 0.\n", 1, "", "t:1: error: N2 not built\n"),
-        ("\n\n# a\nb\n", 1, "", "t:3: error: N2 not built\n"),
+        ("# a\n\n   \n#\n", 0, EMPTY_TEXT, ""),
+        (
+            "nop 00000000000000000000000000000000 # no operation\n",
+            0,
+            NOP_TEXT,
+            "",
+        ),
+        (
+            "nop \\ # and then\n 00000000000000000000000000000000\n",
+            0,
+            NOP_TEXT,
+            "",
+        ),
+        ("\n\n# a\nb\n", 1, "", "t:4: error: N2 not built\n"),
+        ("  # a\n", 1, "", "t:1: error: N2 not built\n"),
         (
             " a 00000000000000000000000000000000\n",
             1,
@@ -211,7 +225,7 @@ fn line_of_name(alloc: Global, len: usize) -> Result<String, AllocError> {
 
 #[test]
 fn names_have_up_to_128_bytes(rt: HostRuntime) -> Result<(), Fail> {
-    for (len, number) in [(128, 0), (129, 1)] {
+    for (len, number, said) in [(128, 0, ""), (129, 1, "t:1: error: K2 long name\n")] {
         let line = line_of_name(rt.alloc(), len)?;
         let ran = run(
             rt.alloc(),
@@ -221,6 +235,28 @@ fn names_have_up_to_128_bytes(rt: HostRuntime) -> Result<(), Fail> {
             NOTHING_FAILS,
         )?;
         assert_eq!(rt; ran.status.number, number);
+        assert_eq!(rt; ran.err.bytes(), said.as_bytes());
+    }
+    Ok(())
+}
+
+#[test]
+fn a_file_has_up_to_65535_lines(rt: HostRuntime) -> Result<(), Fail> {
+    let table = [
+        (65_535, 0, ""),
+        (65_536, 1, "t:65536: error: K1 too many lines\n"),
+    ];
+    for (lines, number, said) in table {
+        let text = vec![in rt.alloc(); b'\n'; lines]?;
+        let ran = run(
+            rt.alloc(),
+            &["gen", "t"],
+            text.as_slice(),
+            4096,
+            NOTHING_FAILS,
+        )?;
+        assert_eq!(rt; ran.status.number, number);
+        assert_eq!(rt; ran.err.bytes(), said.as_bytes());
     }
     Ok(())
 }
@@ -386,7 +422,7 @@ fn a_file_over_its_limit_is_refused(rt: HostRuntime) -> Result<(), Fail> {
         ),
     ];
     for (len, outcome, said, written) in table {
-        let text = vec![in rt.alloc(); b'\n'; len]?;
+        let text = vec![in rt.alloc(); b' '; len]?;
         let ran = run(
             rt.alloc(),
             &["gen", "t"],

@@ -1,0 +1,227 @@
+//! Gathers a logical line from the physical lines that it goes over.
+
+ghost use Rattle.std.specs.Prelude.{◌≡◌, ◌+◌, ◌-◌, ◌≤◌, ℕ, List, [], ◌∷◌, ◌++◌, length, map, take, All, IfOk, OnOk};
+ghost use Rattle.std.specs.List.{between};
+ghost use Rattle.dt_lines.specs.Lines.{is_blank, is_backslash, ends_in_backslash, end_or_go_on, lines_from, continued};
+ghost use Rattle.dt_lines.specs.Spans.{text_at, line_seen, AreSpans};
+ghost use Rattle.dt_lines.specs.Gathering.{gathered_line, is_skipped, joined_line, lines_after};
+
+use crate::line::{Logical, Span, Tokens};
+use crate::scan::LARGEST_FILE;
+use crate::token::{indentation, is_white, push_line_tokens};
+use std::alloc::{AllocError, Global};
+
+// The logical line that is gathered so far: the number and the column of its first physical line, and its tokens.
+// Without tokens nothing is gathered.
+#[derive(Drop)]
+pub(crate) struct Gathered {
+    line: u32,
+    indent: u32,
+    tokens: Vec<Span>,
+}
+
+// Where a physical line stands.
+#[derive(Clone, Copy)]
+pub(crate) struct Place {
+    pub(crate) file: u16,
+    pub(crate) line: u32,
+}
+
+// Nothing.
+pub(crate) fn nothing(alloc: Global) -> Gathered
+    ensures { result.tokens.items ≡ [] }
+{
+    Gathered {
+        line: 0,
+        indent: 0,
+        tokens: Vec::new(alloc),
+    }
+}
+
+// Takes one physical line more: what is gathered then, with the lines that end behind those before.
+pub(crate) fn next_line(
+    alloc: Global,
+    lines: &mut Vec<Logical>,
+    gathered: Gathered,
+    place: Place,
+    bytes: &[u8],
+    from: usize,
+    to: usize,
+) -> Result<Gathered, AllocError>
+    requires ordered { from ≤ to }
+    requires within { to ≤ length bytes.now }
+    requires small { length bytes.now ≤ LARGEST_FILE }
+    requires spans { All (λ l. AreSpans (length bytes.now) l.tokens) lines.old.items }
+    requires file { All (λ l. l.file ≡ place.file) lines.old.items }
+    requires gathered { AreSpans (length bytes.now) gathered.tokens.items }
+    requires before { All (λ s. s.end ≤ from) gathered.tokens.items }
+    ensures lines { IfOk result (λ g. (texts : List (List ℕ)) → map (line_seen bytes.now) lines.new.items ++ lines_after (gathered_line bytes.now g) (place.line + 1) texts ≡ map (line_seen bytes.now) lines.old.items ++ lines_after (gathered_line bytes.now gathered) place.line (between from to bytes.now ∷ texts)) }
+    ensures spans { OnOk result (All (λ l. AreSpans (length bytes.now) l.tokens) lines.new.items) }
+    ensures file { OnOk result (All (λ l. l.file ≡ place.file) lines.new.items) }
+    ensures gathered { IfOk result (λ g. AreSpans (length bytes.now) g.tokens.items) }
+    ensures before { IfOk result (λ g. All (λ s. s.end ≤ to) g.tokens.items) }
+{
+    if is_skipped(&gathered, &bytes[from..to]) {
+        return Ok(nothing(alloc));
+    }
+    let joined = joined(gathered, place.line, bytes, from, to)?;
+    end_or_go_on(alloc, lines, joined, place.file, bytes)
+}
+
+// What is gathered, with the tokens of a physical line behind it.
+fn joined(
+    gathered: Gathered,
+    line: u32,
+    bytes: &[u8],
+    from: usize,
+    to: usize,
+) -> Result<Gathered, AllocError>
+    requires ordered { from ≤ to }
+    requires within { to ≤ length bytes.now }
+    requires small { length bytes.now ≤ LARGEST_FILE }
+    requires spans { AreSpans (length bytes.now) gathered.tokens.items }
+    requires before { All (λ s. s.end ≤ from) gathered.tokens.items }
+    ensures line { IfOk result (λ g. gathered_line bytes.now g ≡ joined_line (gathered_line bytes.now gathered) line (between from to bytes.now)) }
+    ensures spans { IfOk result (λ g. AreSpans (length bytes.now) g.tokens.items) }
+    ensures before { IfOk result (λ g. All (λ s. s.end ≤ to) g.tokens.items) }
+{
+    let first = gathered.line;
+    let indent = gathered.indent;
+    let mut tokens = gathered.tokens;
+    let anew = tokens.is_empty();
+    push_line_tokens(&mut tokens, bytes, from, to)?;
+    if anew {
+        return Ok(Gathered {
+            line,
+            indent: indentation(&bytes[from..to]),
+            tokens,
+        });
+    }
+    Ok(Gathered {
+        line: first,
+        indent,
+        tokens,
+    })
+}
+
+// Ends the line, or takes its last backslash off.
+fn end_or_go_on(
+    alloc: Global,
+    lines: &mut Vec<Logical>,
+    gathered: Gathered,
+    file: u16,
+    bytes: &[u8],
+) -> Result<Gathered, AllocError>
+    requires spans { All (λ l. AreSpans (length bytes.now) l.tokens) lines.old.items }
+    requires file { All (λ l. l.file ≡ file) lines.old.items }
+    requires gathered { AreSpans (length bytes.now) gathered.tokens.items }
+    ensures lines { IfOk result (λ g. (number : ℕ) → (texts : List (List ℕ)) → map (line_seen bytes.now) lines.new.items ++ lines_after (gathered_line bytes.now g) number texts ≡ map (line_seen bytes.now) lines.old.items ++ end_or_go_on (gathered_line bytes.now gathered) (lines_from number texts) (λ line. continued line number texts)) }
+    ensures spans { OnOk result (All (λ l. AreSpans (length bytes.now) l.tokens) lines.new.items) }
+    ensures file { OnOk result (All (λ l. l.file ≡ file) lines.new.items) }
+    ensures gathered { IfOk result (λ g. AreSpans (length bytes.now) g.tokens.items) }
+    ensures before { IfOk result (λ g. (place : ℕ) → All (λ s. s.end ≤ place) gathered.tokens.items → All (λ s. s.end ≤ place) g.tokens.items) }
+{
+    if ends_in_backslash(bytes, gathered.tokens.as_slice()) {
+        return Ok(without_last(gathered));
+    }
+    end(lines, gathered, file, bytes)?;
+    Ok(nothing(alloc))
+}
+
+// What is gathered, without its last token.
+fn without_last(gathered: Gathered) -> Gathered
+    ensures line { result.line ≡ gathered.line }
+    ensures indent { result.indent ≡ gathered.indent }
+    ensures tokens { result.tokens.items ≡ take (length gathered.tokens.items - 1) gathered.tokens.items }
+{
+    let Gathered {
+        line,
+        indent,
+        mut tokens,
+    } = gathered;
+    tokens.pop();
+    Gathered {
+        line,
+        indent,
+        tokens,
+    }
+}
+
+// The gathered line, behind those before it.
+fn end(
+    lines: &mut Vec<Logical>,
+    gathered: Gathered,
+    file: u16,
+    bytes: &[u8],
+) -> Result<(), AllocError>
+    requires spans { All (λ l. AreSpans (length bytes.now) l.tokens) lines.old.items }
+    requires file { All (λ l. l.file ≡ file) lines.old.items }
+    requires gathered { AreSpans (length bytes.now) gathered.tokens.items }
+    ensures lines { OnOk result (map (line_seen bytes.now) lines.new.items ≡ map (line_seen bytes.now) lines.old.items ++ gathered_line bytes.now gathered ∷ []) }
+    ensures spans { OnOk result (All (λ l. AreSpans (length bytes.now) l.tokens) lines.new.items) }
+    ensures file { OnOk result (All (λ l. l.file ≡ file) lines.new.items) }
+{
+    let Gathered {
+        line,
+        indent,
+        tokens,
+    } = gathered;
+    lines.push(Logical {
+        file,
+        line,
+        indent,
+        tokens: Tokens::of(tokens),
+    })?;
+    Ok(())
+}
+
+// At the end of the file a line that goes on ends.
+pub(crate) fn close(
+    lines: &mut Vec<Logical>,
+    gathered: Gathered,
+    file: u16,
+    bytes: &[u8],
+) -> Result<(), AllocError>
+    requires spans { All (λ l. AreSpans (length bytes.now) l.tokens) lines.old.items }
+    requires file { All (λ l. l.file ≡ file) lines.old.items }
+    requires gathered { AreSpans (length bytes.now) gathered.tokens.items }
+    ensures lines { OnOk result ((number : ℕ) → map (line_seen bytes.now) lines.new.items ≡ map (line_seen bytes.now) lines.old.items ++ lines_after (gathered_line bytes.now gathered) number []) }
+    ensures spans { OnOk result (All (λ l. AreSpans (length bytes.now) l.tokens) lines.new.items) }
+    ensures file { OnOk result (All (λ l. l.file ≡ file) lines.new.items) }
+{
+    if gathered.tokens.is_empty() {
+        return Ok(());
+    }
+    end(lines, gathered, file, bytes)?;
+    Ok(())
+}
+
+// Whether the line is blank, where nothing is gathered.
+fn is_skipped(gathered: &Gathered, text: &[u8]) -> bool
+    ensures { (bytes : List ℕ) → result ≡ is_skipped (gathered_line bytes gathered.now) text.now }
+{
+    gathered.tokens.is_empty() && is_blank(text)
+}
+
+// Whether the line has nothing but white space.
+fn is_blank(text: &[u8]) -> bool
+    ensures { result ≡ is_blank text.now }
+{
+    text.iter().all(|byte| is_white(*byte))
+}
+
+fn ends_in_backslash(bytes: &[u8], spans: &[Span]) -> bool
+    requires { AreSpans (length bytes.now) spans.now }
+    ensures { result ≡ ends_in_backslash (map (text_at bytes.now) spans.now) }
+{
+    match spans.split_last() {
+        Some((last, _)) => is_backslash(&bytes[last.start as usize..last.end as usize]),
+        None => false,
+    }
+}
+
+fn is_backslash(token: &[u8]) -> bool
+    ensures { result ≡ is_backslash token.now }
+{
+    token == b"\\".as_slice()
+}

@@ -1,0 +1,132 @@
+//! The tokens, the comment and the indentation of a physical line.
+
+ghost use Rattle.std.specs.Prelude.{◌≡◌, ◌+◌, ◌*◌, ◌≤◌, ◌++◌, length, map, All, OnOk};
+ghost use Rattle.std.specs.List.{between, position_or_len};
+ghost use Rattle.dt_lines.specs.Lines.{indentation, is_comment_mark, is_white, line_tokens, next_column, not_empty, tokens};
+ghost use Rattle.dt_lines.specs.Spans.{text_at, AreSpans};
+
+use crate::line::Span;
+use crate::scan::LARGEST_FILE;
+use std::alloc::AllocError;
+
+// Whether the byte is white space.
+pub(crate) fn is_white(byte: u8) -> bool
+    ensures { result ≡ is_white byte }
+{
+    byte == b' ' || byte == b'\t' || byte == 11 || byte == 12 || byte == b'\r'
+}
+
+// Where the comment of a line begins, or the line's end.
+pub(crate) fn comment_start(text: &[u8]) -> usize
+    ensures place { result ≡ position_or_len is_comment_mark text.now }
+    ensures within { result ≤ length text.now }
+{
+    for at in 0..text.len() {
+        if text[at] == b'#' {
+            return at;
+        }
+    }
+    text.len()
+}
+
+// The places of a physical line's tokens, behind those before them.
+pub(crate) fn push_line_tokens(
+    spans: &mut Vec<Span>,
+    bytes: &[u8],
+    from: usize,
+    to: usize,
+) -> Result<(), AllocError>
+    requires ordered { from ≤ to }
+    requires within { to ≤ length bytes.now }
+    requires small { length bytes.now ≤ LARGEST_FILE }
+    requires spans { AreSpans (length bytes.now) spans.old.items }
+    requires before { All (λ s. s.end ≤ from) spans.old.items }
+    ensures tokens { OnOk result (map (text_at bytes.now) spans.new.items ≡ map (text_at bytes.now) spans.old.items ++ line_tokens (between from to bytes.now)) }
+    ensures spans { OnOk result (AreSpans (length bytes.now) spans.new.items) }
+    ensures before { OnOk result (All (λ s. s.end ≤ to) spans.new.items) }
+{
+    let bare = from + comment_start(&bytes[from..to]);
+    push_tokens(spans, bytes, from, bare)?;
+    Ok(())
+}
+
+// The places of what lies between the white space of a text, behind those before them.
+fn push_tokens(
+    spans: &mut Vec<Span>,
+    bytes: &[u8],
+    from: usize,
+    to: usize,
+) -> Result<(), AllocError>
+    requires ordered { from ≤ to }
+    requires within { to ≤ length bytes.now }
+    requires small { length bytes.now ≤ LARGEST_FILE }
+    requires spans { AreSpans (length bytes.now) spans.old.items }
+    requires before { All (λ s. s.end ≤ from) spans.old.items }
+    ensures tokens { OnOk result (map (text_at bytes.now) spans.new.items ≡ map (text_at bytes.now) spans.old.items ++ tokens (between from to bytes.now)) }
+    ensures spans { OnOk result (AreSpans (length bytes.now) spans.new.items) }
+    ensures before { OnOk result (All (λ s. s.end ≤ to) spans.new.items) }
+{
+    let mut start = from;
+    for at in from..to {
+        if !is_white(bytes[at]) {
+            continue;
+        }
+        push_span(spans, bytes, start, at)?;
+        start = at + 1;
+    }
+    push_span(spans, bytes, start, to)?;
+    Ok(())
+}
+
+// The token from a place up to another, where it isn't empty.
+fn push_span(
+    spans: &mut Vec<Span>,
+    bytes: &[u8],
+    start: usize,
+    end: usize,
+) -> Result<(), AllocError>
+    requires ordered { start ≤ end }
+    requires within { end ≤ length bytes.now }
+    requires small { length bytes.now ≤ LARGEST_FILE }
+    requires spans { AreSpans (length bytes.now) spans.old.items }
+    requires before { All (λ s. s.end ≤ start) spans.old.items }
+    ensures tokens { OnOk result (map (text_at bytes.now) spans.new.items ≡ map (text_at bytes.now) spans.old.items ++ not_empty (between start end bytes.now)) }
+    ensures spans { OnOk result (AreSpans (length bytes.now) spans.new.items) }
+    ensures before { OnOk result (All (λ s. s.end ≤ end) spans.new.items) }
+{
+    if start < end {
+        spans.push(Span {
+            start: start as u32,
+            end: end as u32,
+        })?;
+    }
+    Ok(())
+}
+
+// The column of the first byte that isn't white space.
+pub(crate) fn indentation(text: &[u8]) -> u32
+    requires { length text.now ≤ LARGEST_FILE }
+    ensures { result ≡ indentation text.now }
+{
+    let mut column = 0;
+    for byte in text {
+        if !is_white(*byte) {
+            return column;
+        }
+        column = next_column(column, *byte);
+    }
+    column
+}
+
+// The column behind a byte.
+fn next_column(column: u32, byte: u8) -> u32
+    requires { column ≤ 8 * LARGEST_FILE }
+    ensures column { result ≡ next_column column byte }
+    ensures bound { result ≤ column + 8 }
+{
+    if byte == b'\t' {
+        (column / 8 + 1) * 8
+    } else {
+        column + 1
+    }
+}
