@@ -1,0 +1,13 @@
+pub mod BinaryNumbers
+pub mod Widths
+pub mod FirstFaults
+pub mod Entries
+pub mod Inferred
+pub mod ReadLines
+pub mod ReadFiles
+pub mod Kept
+pub mod Rising
+pub mod Soundness
+pub mod Made
+pub mod LineCounts
+pub mod TestSources

@@ -1,0 +1,140 @@
+-- The model of files that break no rule is sound.
+use Rattle.std.proofs.Common.{◌≡◌, ℕ, zero, suc, ◌+◌, ◌*◌, ◌^◌, ◌<◌, ◌≤◌, ◌==◌, ◌||◌, Bool, true, false, List, [], ◌∷◌, length, map, None, refl, ap, ◌∙◌, sym, subst, ⊎_elim, arith, bit_and}
+use Rattle.std.specs.Prelude.{◌≢◌, if◌then◌else◌}
+use Rattle.std.specs.List.{All, AllPairs}
+use Rattle.std.proofs.Math.Pow.{pow_mono}
+use Rattle.std.proofs.lemmas.Bool.{cases_eq}
+use Rattle.std.proofs.lemmas.Bool.Decides.{nat_tests}
+use Rattle.std.proofs.lemmas.Nat.{and_block}
+use Rattle.std.proofs.lemmas.List.{length-map}
+use Rattle.std.proofs.lemmas.List.Elements.{All-nil, All-cons, All-map, All-same, All-weaker}
+use Rattle.dt_values.specs.Widths.{width_bits}
+use Rattle.dt_fields.specs.declared.set.SetDef.{SetDef}
+use Rattle.dt_forms.specs.declared.bits.Digits.TheVariants.{Fixed, Ones, Ignored}
+use Rattle.dt_forms.specs.declared.form.Format.{Format}
+use Rattle.dt_forms.specs.declared.form.Pattern.{Pattern as Kept}
+use Rattle.dt_forms.specs.declared.model.Model.{Model}
+use Rattle.dt_forms.specs.declared.options.Options.{Options}
+use Rattle.dt_forms.specs.Models.{IsModelOf, sets_of, formats_of, first_set, first_format}
+use Rattle.dt_forms.specs.Patterns.{Pattern, PatternLine, fixed_digit, one_digit, ignored_digit, number_of, pattern_of, pattern_lines, flat_list}
+use Rattle.dt_forms.specs.Rules.{first_fault}
+use Rattle.dt_forms.specs.Sound.{HasMasks, FormatHasMasks, IsBefore, IsSound, set_number}
+use Rattle.dt_forms.specs.Trees.{items_of, numbers_of, numbers_from}
+use Rattle.dt_forms.specs.View.{kept_pattern}
+use Rattle.dt_forms.proofs.BinaryNumbers.{number_below}
+use Rattle.dt_forms.proofs.Entries.{numbers_of_ones}
+use Rattle.dt_forms.proofs.Kept.{HasWidth, all_width, all_few}
+use Rattle.dt_forms.proofs.Rising.{Pairs, all_pairs, all_rise}
+
+-- the ones are under the fixed mask, bit by bit
+one_under : (zeros ones : Bool) → bit_and (if ones then 1 else 0) (if zeros || ones then 1 else 0) ≡ (if ones then 1 else 0)
+one_under true true = refl
+one_under true false = refl
+one_under false true = refl
+one_under false false = refl
+
+ones_under : (bs : List ℕ) → bit_and (number_of one_digit bs) (number_of fixed_digit bs) ≡ number_of one_digit bs
+ones_under [] = refl
+ones_under (b ∷ bs) =
+    and_block (length bs) (one_digit b) (fixed_digit b) (number_of one_digit bs) (number_of fixed_digit bs) (number_below Ones bs) (number_below Fixed bs)
+    ∙ ap (λ d. d * 2 ^ length bs + bit_and (number_of one_digit bs) (number_of fixed_digit bs)) (one_under (b == 48) (b == 49))
+    ∙ ap (λ r. one_digit b * 2 ^ length bs + r) (ones_under bs)
+
+-- no bit is fixed and ignored
+digit_of_dash : (b : ℕ) → b ≡ 45 → bit_and (fixed_digit b) (ignored_digit b) ≡ 0
+digit_of_dash b e = ap (λ c. bit_and (fixed_digit c) (ignored_digit c)) e
+
+not_ignored : (test other : Bool) → other ≡ false → bit_and (if test then 1 else 0) (if other then 1 else 0) ≡ 0
+not_ignored true other e = ap (λ o. bit_and 1 (if o then 1 else 0)) e
+not_ignored false other e = ap (λ o. bit_and 0 (if o then 1 else 0)) e
+
+no_dash : (b : ℕ) → (b ≡ 45 → ⊥) → (b == 45) ≡ false
+no_dash b h = grind (arith, nat_tests)
+
+digits_apart : (b : ℕ) → bit_and (fixed_digit b) (ignored_digit b) ≡ 0
+digits_apart b = ⊎_elim (λ (e : b ≡ 45). digit_of_dash b e) (λ (h : b ≡ 45 → ⊥). not_ignored (b == 48 || b == 49) (b == 45) (no_dash b h)) (cases_eq b 45)
+
+masks_apart : (bs : List ℕ) → bit_and (number_of fixed_digit bs) (number_of ignored_digit bs) ≡ 0
+masks_apart [] = refl
+masks_apart (b ∷ bs) =
+    and_block (length bs) (fixed_digit b) (ignored_digit b) (number_of fixed_digit bs) (number_of ignored_digit bs) (number_below Fixed bs) (number_below Ignored bs)
+    ∙ ap (λ d. d * 2 ^ length bs + bit_and (number_of fixed_digit bs) (number_of ignored_digit bs)) (digits_apart b)
+    ∙ ap (λ r. 0 * 2 ^ length bs + r) (masks_apart bs)
+    ∙ (let none : 0 * 2 ^ length bs + 0 ≡ 0 = omega arith in none)
+
+line_masks : (width : ℕ) (p : PatternLine) → HasWidth width p → HasMasks width (kept_pattern p)
+line_masks width p long = record {
+  fixed_below = subst (λ n. number_of fixed_digit p.bits < 2 ^ n) long (number_below Fixed p.bits);
+  ignored_below = subst (λ n. number_of ignored_digit p.bits < 2 ^ n) long (number_below Ignored p.bits);
+  bits_in_mask = ones_under p.bits;
+  apart = masks_apart p.bits;
+}
+
+all_masks : (width : ℕ) (ps : List PatternLine) → All (HasWidth width) ps → All (HasMasks width) (map kept_pattern ps)
+all_masks width ps h = All-map (HasMasks width) kept_pattern ps (All-weaker (HasWidth width) (λ p. HasMasks width (kept_pattern p)) (λ p k. line_masks width p k) ps h)
+
+all_bits : (width : ℕ) (ps : List PatternLine) → All (HasWidth width) ps → All (λ p. p.bits ≡ width) (map kept_pattern ps)
+all_bits width ps h = All-map (λ (p : Kept). p.bits ≡ width) kept_pattern ps h
+
+-- the sets and formats of these patterns
+some_power : (n : ℕ) → 0 < 2 ^ n
+some_power n =
+    let least : 0 ≤ n = omega arith in
+    let more : 2 ^ 0 ≤ 2 ^ n = pow_mono least in
+    omega arith
+
+format_masks_of : (decode : List ℕ) (width : ℕ) (ps : List Pattern) → All (FormatHasMasks width) (formats_of decode width ps)
+format_masks_of decode width [] = All-nil (FormatHasMasks width)
+format_masks_of decode width (p ∷ ps) = All-cons (FormatHasMasks width) (first_format decode width) [] (record { fixed_below = some_power width; ignored_below = some_power width; bits_in_mask = refl; apart = refl }) (All-nil (FormatHasMasks width))
+
+set_numbers_of : (decode : List ℕ) (width : ℕ) (ps : List Pattern) → All (λ f. f.set < length (sets_of decode ps)) (formats_of decode width ps)
+set_numbers_of decode width [] = All-nil (λ (f : Format). f.set < 0)
+set_numbers_of decode width (p ∷ ps) = All-cons (λ (f : Format). f.set < 1) (first_format decode width) [] (omega arith) (All-nil (λ (f : Format). f.set < 1))
+
+one_format : (decode : List ℕ) (width : ℕ) (p : Pattern) (ps : List Pattern) → 0 < length (formats_of decode width (p ∷ ps))
+one_format decode width p ps = omega arith
+
+format_numbers_of : (decode : List ℕ) (width : ℕ) (ps : List PatternLine) → All (λ p. p.format < length (formats_of decode width (map pattern_of ps))) (map kept_pattern ps)
+format_numbers_of decode width [] = All-nil (λ (p : Kept). p.format < 0)
+format_numbers_of decode width (p ∷ ps) = All-map (λ (q : Kept). q.format < 1) kept_pattern (p ∷ ps) (λ k d h. omega arith)
+
+set_names_of : (decode : List ℕ) (ps : List Pattern) → AllPairs (λ s t. s.name ≢ t.name) (sets_of decode ps)
+set_names_of decode [] = all_pairs (λ (s t : SetDef). s.name ≢ t.name) [] tt
+set_names_of decode (p ∷ ps) = all_pairs (λ (s t : SetDef). s.name ≢ t.name) (first_set decode ∷ []) (All-nil (λ (t : SetDef). (first_set decode).name ≢ t.name), tt)
+
+format_names_of : (decode : List ℕ) (width : ℕ) (ps : List Pattern) → AllPairs (λ f g. f.name ≢ g.name) (formats_of decode width ps)
+format_names_of decode width [] = all_pairs (λ (f g : Format). f.name ≢ g.name) [] tt
+format_names_of decode width (p ∷ ps) = all_pairs (λ (f g : Format). f.name ≢ g.name) (first_format decode width ∷ []) (All-nil (λ (g : Format). (first_format decode width).name ≢ g.name), tt)
+
+abbrev SameSet : List Format → Kept → Kept → Type 0
+SameSet formats p q = p.name ≡ q.name → set_number formats p ≡ set_number formats q
+
+one_set_of : (formats : List Format) (ps : List PatternLine) → Pairs (SameSet formats) (map kept_pattern ps)
+one_set_of formats [] = tt
+one_set_of formats (p ∷ ps) = (All-map (SameSet formats (kept_pattern p)) kept_pattern ps (λ k d h same. refl), one_set_of formats ps)
+
+numbers_below : (n m bound : ℕ) → n + m ≤ bound → All (λ k. k < bound) (numbers_from n m)
+numbers_below n zero bound h = All-nil (λ k. k < bound)
+numbers_below n (suc m) bound h = All-cons (λ k. k < bound) n (numbers_from (n + 1) m) (omega arith) (numbers_below (n + 1) m bound (omega arith))
+
+pub sound_model : (options : Options) (texts : List (List ℕ)) (model : Model) → IsModelOf options texts model → first_fault (width_bits options.width) texts ≡ None → IsSound model
+sound_model options texts model h none =
+    let width : width_bits model.width ≡ width_bits options.width = ap width_bits h.width in
+    let wide : All (HasWidth (width_bits model.width)) (pattern_lines texts) = all_width (width_bits model.width) texts (subst (λ w. first_fault w texts ≡ None) (sym width) none) in
+    let count : length model.patterns ≡ length (pattern_lines texts) = ap length h.patterns ∙ length-map (pattern_lines texts) kept_pattern in
+    let listed : length (flat_list texts) ≡ length model.patterns = length-map (pattern_lines texts) pattern_of ∙ sym count in
+    let once : numbers_of (items_of model.entries) ≡ numbers_from 0 (length model.patterns) = ap numbers_of h.entries ∙ numbers_of_ones (numbers_from 0 (length (flat_list texts))) ∙ ap (numbers_from 0) listed in
+    record {
+      masks = All-same (HasMasks (width_bits model.width)) model.patterns (map kept_pattern (pattern_lines texts)) h.patterns (all_masks (width_bits model.width) (pattern_lines texts) wide);
+      format_masks = subst (λ w. All (FormatHasMasks w) model.formats) (sym width) (All-same (FormatHasMasks (width_bits options.width)) model.formats _ h.formats (format_masks_of options.decode (width_bits options.width) (flat_list texts)));
+      set_numbers = subst (λ (ss : List SetDef). All (λ f. f.set < length ss) model.formats) (sym h.sets) (All-same (λ (f : Format). f.set < length (sets_of options.decode (flat_list texts))) model.formats _ h.formats (set_numbers_of options.decode (width_bits options.width) (flat_list texts)));
+      format_numbers = subst (λ (fs : List Format). All (λ p. p.format < length fs) model.patterns) (sym h.formats) (All-same (λ (p : Kept). p.format < length (formats_of options.decode (width_bits options.width) (flat_list texts))) model.patterns _ h.patterns (format_numbers_of options.decode (width_bits options.width) (pattern_lines texts)));
+      pattern_numbers = All-same (λ n. n < length model.patterns) (numbers_of (items_of model.entries)) _ once (numbers_below 0 (length model.patterns) (length model.patterns) (omega arith));
+      each_once = once;
+      few = omega (arith, all_few (width_bits options.width) texts none);
+      places = subst (λ (ps : List Kept). AllPairs IsBefore ps) (sym h.patterns) (all_rise texts);
+      whole_words = All-same (λ (p : Kept). p.bits ≡ width_bits model.width) model.patterns (map kept_pattern (pattern_lines texts)) h.patterns (all_bits (width_bits model.width) (pattern_lines texts) wide);
+      set_names = subst (λ (ss : List SetDef). AllPairs (λ s t. s.name ≢ t.name) ss) (sym h.sets) (set_names_of options.decode (flat_list texts));
+      format_names = subst (λ (fs : List Format). AllPairs (λ f g. f.name ≢ g.name) fs) (sym h.formats) (format_names_of options.decode (width_bits options.width) (flat_list texts));
+      one_set = subst (λ (ps : List Kept). AllPairs (λ p q. p.name ≡ q.name → set_number model.formats p ≡ set_number model.formats q) ps) (sym h.patterns) (all_pairs (SameSet model.formats) (map kept_pattern (pattern_lines texts)) (one_set_of model.formats (pattern_lines texts)));
+    }

@@ -1,0 +1,9 @@
+pub mod Options
+pub mod Patterns
+pub mod Rules
+pub mod View
+pub mod Trees
+pub mod Sources
+pub mod Models
+pub mod Sound
+pub mod Digits

@@ -1,0 +1,70 @@
+-- The patterns of pattern files, in file order: docs/devel/decodetree.rst, "Patterns", for lines of a name and bits.
+use Rattle.std.specs.Prelude.{ℕ, ◌+◌, ◌*◌, ◌^◌, ◌==◌, ◌||◌, Bool, IsTrue, List, [], ◌∷◌, ◌++◌, length, map, filter_map, Option, Some, None, bit_and, if◌then◌else◌}
+use Rattle.std.specs.List.{concat}
+use Rattle.dt_lines.specs.Lines.{Line, logical_lines}
+
+-- a pattern line: the place of its file among all files, from 0, its number, its name, and its bits as they are written, those of all its tokens joined
+pub record PatternLine : Type 0 where
+  pub file : ℕ
+  pub line : ℕ
+  pub name : List ℕ
+  pub bits : List ℕ
+
+-- a pattern: its name; the place of its file, from 0, and its line; how many bits it has; the bits that it fixes, and to what
+pub record Pattern : Type 0 where
+  pub name : List ℕ
+  pub file : ℕ
+  pub line : ℕ
+  pub count : ℕ
+  pub mask : ℕ
+  pub bits : ℕ
+
+-- a pattern matches the words that have its bits under its mask
+abbrev pub matches : Pattern → ℕ → Bool
+matches p word = bit_and word p.mask == p.bits
+
+abbrev pub Matches : Pattern → ℕ → Type 0
+Matches p word = IsTrue (matches p word)
+
+-- a byte 0 or 1 fixes its bit, and a dash has it ignored
+abbrev pub fixed_digit : ℕ → ℕ
+fixed_digit b = if b == 48 || b == 49 then 1 else 0
+
+abbrev pub one_digit : ℕ → ℕ
+one_digit b = if b == 49 then 1 else 0
+
+abbrev pub ignored_digit : ℕ → ℕ
+ignored_digit b = if b == 45 then 1 else 0
+
+-- a number by its binary digits, laid from the most significant end
+abbrev pub number_of : (ℕ → ℕ) → List ℕ → ℕ
+number_of digit [] = 0
+number_of digit (b ∷ bs) = digit b * 2 ^ length bs + number_of digit bs
+
+-- the pattern line that tokens are. No tokens are none.
+abbrev pub pattern_in : ℕ → ℕ → List (List ℕ) → Option PatternLine
+pattern_in file number [] = None
+pattern_in file number (name ∷ tokens) = Some (record { file = file; line = number; name = name; bits = concat tokens })
+
+abbrev pub pattern_line : ℕ → Line → Option PatternLine
+pattern_line file l = pattern_in file l.line l.tokens
+
+-- the pattern lines among the lines of the file at this place
+abbrev pub pattern_lines_in : ℕ → List Line → List PatternLine
+pattern_lines_in file lines = filter_map (pattern_line file) lines
+
+-- those of files, of which the first has this place
+abbrev pub pattern_lines_from : ℕ → List (List ℕ) → List PatternLine
+pattern_lines_from file [] = []
+pattern_lines_from file (text ∷ texts) = pattern_lines_in file (logical_lines text) ++ pattern_lines_from (file + 1) texts
+
+abbrev pub pattern_lines : List (List ℕ) → List PatternLine
+pattern_lines texts = pattern_lines_from 0 texts
+
+-- what a line's bits fix
+abbrev pub pattern_of : PatternLine → Pattern
+pattern_of p = record { name = p.name; file = p.file; line = p.line; count = length p.bits; mask = number_of fixed_digit p.bits; bits = number_of one_digit p.bits }
+
+-- the patterns of files, where no line is broken
+abbrev pub flat_list : List (List ℕ) → List Pattern
+flat_list texts = map pattern_of (pattern_lines texts)

@@ -1,0 +1,137 @@
+-- The rules of the lines of pattern files, as decodetree.py checks them, for lines of a name and bits. The order of the rules is this project's.
+use Rattle.std.specs.Prelude.{ℕ, ◌+◌, ◌-◌, ◌^◌, ◌==◌, ◌||◌, nat_lt, Bool, true, false, List, [], ◌∷◌, ◌++◌, length, Option, Some, None, codes, not, bit_or, bit_xor, if◌then◌else◌}
+use Rattle.std.specs.List.{concat, list_all, list_any}
+use Rattle.dt_values.specs.Names.{is_name}
+use Rattle.dt_values.specs.Types.{is_text}
+use Rattle.dt_lines.specs.Lines.{Line, logical_lines}
+use Rattle.dt_fields.specs.declared.rule.Rule.{Rule}
+use Rattle.dt_fields.specs.declared.rule.Rule.TheVariants as rule
+use Rattle.dt_forms.specs.Patterns.{fixed_digit, ignored_digit, number_of}
+
+-- what a message names beside the rule: nothing, a token or a name by its bytes, a number, or bits of the word
+pub data Detail : Type 0 where
+  nothing : Detail
+  token : List ℕ → Detail
+  number : ℕ → Detail
+  mask : ℕ → Detail
+
+-- a rule that a line breaks, with its detail
+abbrev pub Broken : Type 0
+Broken = Rule × Detail
+
+-- what the lines before a line have made, in all files so far: how many patterns
+pub record Scope : Type 0 where
+  pub patterns : ℕ
+
+abbrev pub scope_of : ℕ → Scope
+scope_of n = record { patterns = n }
+
+-- a row of the list of rules: it is there where the rule is broken
+abbrev pub where_broken : Bool → Broken → List Broken
+where_broken true b = b ∷ []
+where_broken false b = []
+
+-- a brace or a bracket alone
+abbrev pub is_group_mark : List ℕ → Bool
+is_group_mark text = is_text text (codes "{") || (is_text text (codes "}") || (is_text text (codes "[") || is_text text (codes "]")))
+
+-- the token of a definition of a field, a set or a format: it begins with `%`, `&` or `@`
+abbrev pub defines : List ℕ → Bool
+defines [] = false
+defines (b ∷ bs) = b == 37 || (b == 38 || b == 64)
+
+-- a byte that stands for a bit: `0`, `1`, `.` or `-`
+abbrev pub is_bit : ℕ → Bool
+is_bit b = b == 48 || (b == 49 || (b == 46 || b == 45))
+
+abbrev pub is_other_token : List ℕ → Bool
+is_other_token text = not (list_all is_bit text)
+
+-- N2: the line is no pattern line of bits alone
+abbrev pub is_not_built : List ℕ → List (List ℕ) → Bool
+is_not_built first tokens = is_group_mark first || (defines first || list_any is_other_token tokens)
+
+-- L1: no group can be open
+abbrev pub is_indented : ℕ → Bool
+is_indented indent = not (indent == 0)
+
+-- L9: 8,192 patterns came before
+abbrev pub is_full : Scope → Bool
+is_full scope = scope.patterns == 8192
+
+-- what comes before the rules of the tokens behind the first one
+abbrev pub head_faults : Scope → ℕ → List ℕ → List (List ℕ) → List Broken
+head_faults scope indent first tokens =
+    where_broken (is_not_built first tokens) (rule.N2, nothing)
+    ++ (where_broken (is_indented indent) (rule.L1, number indent)
+    ++ (where_broken (not (is_name first)) (rule.L7, token first)
+    ++ where_broken (is_full scope) (rule.L9, token first)))
+
+-- the first of these tokens that brings the bits over the width, behind so many bits
+abbrev pub token_faults : ℕ → ℕ → List (List ℕ) → List Broken
+token_faults width count [] = []
+token_faults width count (t ∷ ts) = if nat_lt width (count + length t) then (rule.G8, token t) ∷ [] else token_faults width (count + length t) ts
+
+-- the bits of the word that are in none of these masks
+abbrev pub bits_left : ℕ → List ℕ → ℕ
+bits_left width bits = bit_xor (2 ^ width - 1) (bit_or (number_of fixed_digit bits) (number_of ignored_digit bits))
+
+-- the rules of the whole line
+abbrev pub whole_faults : ℕ → List ℕ → List Broken
+whole_faults width bits =
+    where_broken (not (length bits == width)) (rule.G9, number (length bits))
+    ++ where_broken (not (bits_left width bits == 0)) (rule.G21, mask (bits_left width bits))
+
+-- the rules that a line with these tokens breaks, in order
+abbrev pub faults_in : ℕ → Scope → ℕ → List (List ℕ) → List Broken
+faults_in width scope indent [] = where_broken (is_indented indent) (rule.L1, number indent)
+faults_in width scope indent (first ∷ tokens) = head_faults scope indent first tokens ++ (token_faults width 0 tokens ++ whole_faults width (concat tokens))
+
+abbrev pub faults_of_line : ℕ → Scope → Line → List Broken
+faults_of_line width scope l = faults_in width scope l.indent l.tokens
+
+-- a fault: the place of the file, from 0, the line, and the rule with its detail
+pub record Fault : Type 0 where
+  pub file : ℕ
+  pub line : ℕ
+  pub broken : Broken
+
+abbrev pub first : List Broken → Option Broken
+first [] = None
+first (b ∷ bs) = Some b
+
+-- what a line adds to what the lines before it have made
+abbrev pub made_by : List (List ℕ) → Scope → Scope
+made_by [] scope = scope
+made_by (name ∷ tokens) scope = record { patterns = scope.patterns + 1 }
+
+abbrev pub after_line : Scope → Line → Scope
+after_line scope l = made_by l.tokens scope
+
+abbrev pub after_lines : Scope → List Line → Scope
+after_lines scope [] = scope
+after_lines scope (l ∷ ls) = after_lines (after_line scope l) ls
+
+-- the fault of a line, or of what comes behind it
+abbrev pub fault_or : ℕ → ℕ → List Broken → Option Fault → Option Fault
+fault_or file line [] later = later
+fault_or file line (b ∷ bs) later = Some (record { file = file; line = line; broken = b })
+
+-- the first fault of these lines of a file
+abbrev pub fault_in_lines : ℕ → ℕ → Scope → List Line → Option Fault
+fault_in_lines width file scope [] = None
+fault_in_lines width file scope (l ∷ ls) = fault_or file l.line (faults_of_line width scope l) (fault_in_lines width file (after_line scope l) ls)
+
+abbrev pub or_later : Option Fault → Option Fault → Option Fault
+or_later None later = later
+or_later (Some fault) later = Some fault
+
+-- the first fault of files, of which the first has this place
+abbrev pub fault_in_files : ℕ → ℕ → Scope → List (List ℕ) → Option Fault
+fault_in_files width file scope [] = None
+fault_in_files width file scope (text ∷ texts) =
+    or_later (fault_in_lines width file scope (logical_lines text)) (fault_in_files width (file + 1) (after_lines scope (logical_lines text)) texts)
+
+-- the first rule of the least line that breaks one, in files of which the first has place 0
+abbrev pub first_fault : ℕ → List (List ℕ) → Option Fault
+first_fault width texts = fault_in_files width 0 (scope_of 0) texts

@@ -1,0 +1,21 @@
+//! Why files have no model.
+
+use dt_fields::{Detail, Rule};
+
+/// A broken rule: the place of the file among all files, from 0, the line, from 1, the rule, and what a
+/// message names beside it.
+#[derive(Clone, Copy, Debug, PartialEq, Eq)]
+pub struct Fault {
+    pub file: u16,
+    pub line: u32,
+    pub rule: Rule,
+    pub detail: Detail,
+}
+
+/// Why files have no model.
+#[derive(Clone, Copy, Debug, PartialEq, Eq)]
+pub enum ModelFault {
+    /// The first rule that the least line breaks of those that break one.
+    Broken(Fault),
+    NoMemory,
+}

@@ -1,0 +1,26 @@
+//! Models of pattern files: the reading of patterns of bits.
+#![tactic(auto)]
+
+mod bits;
+pub mod entry;
+pub mod fault;
+pub mod form;
+mod infer;
+mod line;
+pub mod model;
+pub mod options;
+pub mod reader;
+pub mod source;
+pub mod value;
+
+pub use entry::{Entry, EntryList, Group};
+pub use fault::{Fault, ModelFault};
+pub use form::{Format, FormatList, Pattern, PatternList};
+pub use model::{Model, SetList};
+pub use options::Options;
+pub use reader::{MOST_FILES, MOST_PATTERNS, read_model};
+pub use source::{Bytes, Lines, Source};
+pub use value::{FieldValue, Values};
+
+#[cfg(test)]
+mod tests;

@@ -1,0 +1,341 @@
+//! Reads small files: the rule of each faulty line, and the models of sound ones.
+
+ghost use Rattle.std.specs.Prelude.{◌≡◌, ◌≢◌, ◌≤◌, ◌+◌, false, length, IfOk};
+ghost use Rattle.dt_lines.specs.Lines.{physical_lines};
+ghost use Rattle.dt_forms.specs.Options.{IsOptionName};
+ghost use Rattle.dt_forms.specs.Sources.{IsSourceAt};
+
+use crate::line::{LineFault, Place, read_line};
+use crate::{
+    Bytes, Entry, Fault, Lines, MOST_PATTERNS, Model, ModelFault, Options, Source, read_model,
+};
+use dt_fields::{Detail, Rule};
+use dt_lines::scan::logical;
+use dt_lines::{LARGEST_FILE, Span};
+use dt_values::{Name, Width};
+use std::alloc::Global;
+use std::test::Fail;
+
+// The options of a decoder of words of this width.
+fn options(width: Width) -> Options
+    ensures fixed { result.variable ≡ false }
+    ensures decode { IsOptionName result.decode }
+    ensures translate { IsOptionName result.translate }
+{
+    Options {
+        width,
+        variable: false,
+        decode: Name::from_bytes(b"decode").unwrap(),
+        decode_static: true,
+        translate: Name::from_bytes(b"trans").unwrap(),
+        translate_static: true,
+    }
+}
+
+// How many physical lines there are, counted from the end.
+fn line_count(bytes: &[u8]) -> u32
+    requires { length bytes.now ≤ LARGEST_FILE }
+    ensures { result ≡ length (physical_lines bytes.now) }
+{
+    let mut count = 0;
+    let mut left = bytes.len();
+    while left > 0 {
+        left -= 1;
+        count = with_byte(count, bytes[left]);
+    }
+    count
+}
+
+// How many lines there are with one byte more before them.
+fn with_byte(count: u32, byte: u8) -> u32
+    requires { count ≤ LARGEST_FILE }
+    ensures newline { byte ≡ 10 → result ≡ count + 1 }
+    ensures first { byte ≢ 10 → count ≡ 0 → result ≡ 1 }
+    ensures other { byte ≢ 10 → count ≢ 0 → result ≡ count }
+    ensures bound { result ≤ count + 1 }
+{
+    if byte == b'\n' {
+        count + 1
+    } else if count == 0 {
+        1
+    } else {
+        count
+    }
+}
+
+// A file as the one at this place.
+fn source(alloc: Global, file: u16, text: &[u8]) -> Result<Source, Fail>
+    requires { length text.now ≤ LARGEST_FILE }
+    ensures { IfOk result (IsSourceAt file) }
+{
+    let lines = logical(alloc, file, text)?;
+    let mut bytes = Vec::new(alloc);
+    bytes.extend_from_slice(text)?;
+    Ok(Source {
+        bytes: Bytes::of(bytes),
+        lines: Lines::of(lines),
+        last_line: line_count(text),
+    })
+}
+
+// What is read of one file.
+fn read(alloc: Global, width: Width, text: &[u8]) -> Result<Result<Model, ModelFault>, Fail>
+    requires { length text.now ≤ LARGEST_FILE }
+{
+    let files = [source(alloc, 0, text)?];
+    Ok(read_model(alloc, &options(width), files.as_slice()))
+}
+
+// What is read of two.
+fn read_two(
+    alloc: Global,
+    width: Width,
+    first: &[u8],
+    second: &[u8],
+) -> Result<Result<Model, ModelFault>, Fail>
+    requires first { length first.now ≤ LARGEST_FILE }
+    requires second { length second.now ≤ LARGEST_FILE }
+{
+    let files = [source(alloc, 0, first)?, source(alloc, 1, second)?];
+    Ok(read_model(alloc, &options(width), files.as_slice()))
+}
+
+// The fault that was found.
+fn fault_of(read: &Result<Model, ModelFault>) -> Result<Fault, Fail> {
+    let Err(ModelFault::Broken(fault)) = read else {
+        return Err("no fault".into());
+    };
+    Ok(*fault)
+}
+
+// The model that was read.
+fn model_of(read: Result<Model, ModelFault>) -> Result<Model, Fail> {
+    match read {
+        Ok(model) => Ok(model),
+        Err(_) => Err("no model".into()),
+    }
+}
+
+fn text(start: u32, end: u32) -> Detail {
+    Detail::Text(Span { start, end })
+}
+
+// Whether the one fault of a file of at most 100 bytes is this.
+fn is_fault(
+    alloc: Global,
+    width: Width,
+    bytes: &[u8],
+    expected: (u32, Rule, Detail),
+) -> Result<bool, Fail> {
+    if bytes.len() > 100 {
+        return Err("too long".into());
+    }
+    let fault = fault_of(&read(alloc, width, bytes)?)?;
+    Ok(
+        (fault.file, fault.line, fault.rule, fault.detail)
+            == (0, expected.0, expected.1, expected.2),
+    )
+}
+
+#[test]
+fn words_of_32_bits(rt: HostRuntime) -> Result<(), Fail> {
+    let table: [(&[u8], (u32, Rule, Detail)); 10] = [
+        (b"a 000", (1, Rule::G9, Detail::Number(3))),
+        (b"a 0.", (1, Rule::G9, Detail::Number(2))),
+        (
+            b" p 00000000000000000000000000000000",
+            (1, Rule::L1, Detail::Number(1)),
+        ),
+        (
+            b"p 0 ...............................",
+            (1, Rule::G21, Detail::Mask(0x7fff_ffff)),
+        ),
+        (
+            b"a 00000000000000000000000000000000 0",
+            (1, Rule::G8, text(35, 36)),
+        ),
+        (b"*a 0x", (1, Rule::N2, Detail::None)),
+        (b"a 0\n*b 0x", (1, Rule::G9, Detail::Number(1))),
+        (b"\n\n *b 0x\na", (3, Rule::N2, Detail::None)),
+        (
+            b"a 0101010101010101----------------\n *b 0",
+            (2, Rule::L1, Detail::Number(1)),
+        ),
+        (b"*b 0", (1, Rule::L7, text(0, 2))),
+    ];
+    for (bytes, expected) in table {
+        assert!(rt; is_fault(rt.alloc(), Width::W32, bytes, expected)?);
+    }
+    Ok(())
+}
+
+#[test]
+fn lines_that_are_not_built(rt: HostRuntime) -> Result<(), Fail> {
+    let table: [&[u8]; 8] = [
+        b"}",
+        b"{",
+        b"[",
+        b"]",
+        b"%f 0:4",
+        b"&s a",
+        b"@f ----------------",
+        b"p a:16",
+    ];
+    for bytes in table {
+        assert!(rt; is_fault(rt.alloc(), Width::W16, bytes, (1, Rule::N2, Detail::None))?);
+    }
+    Ok(())
+}
+
+#[test]
+fn words_of_16_and_64_bits(rt: HostRuntime) -> Result<(), Fail> {
+    assert!(rt;
+        is_fault(
+            rt.alloc(),
+            Width::W16,
+            b"a 00000000000000000",
+            (1, Rule::G8, text(2, 19))
+        )?
+    );
+    assert!(rt;
+        is_fault(
+            rt.alloc(),
+            Width::W16,
+            b"a 0000.000 0000000-",
+            (1, Rule::G21, Detail::Mask(0x0800))
+        )?
+    );
+    let word = b"a 1--------------- 0000000000000000 ---------------- 0000000000000001";
+    let model = model_of(read(rt.alloc(), Width::W64, word)?)?;
+    let pattern = model.patterns.items().first().ok_or("a pattern")?;
+    assert_eq!(rt;
+        (pattern.bits, pattern.fixed_mask),
+        (64, 0x8000_ffff_0000_ffff)
+    );
+    assert_eq!(rt;
+        (pattern.fixed_bits, pattern.ignored),
+        (0x8000_0000_0000_0001, 0x7fff_0000_ffff_0000)
+    );
+    Ok(())
+}
+
+#[test]
+fn a_model_has_each_part(rt: HostRuntime) -> Result<(), Fail> {
+    let file = b"\np --------------------------------\nq 1010----------------------------";
+    let model = model_of(read(rt.alloc(), Width::W32, file)?)?;
+    assert_eq!(rt; (model.width, model.variable), (Width::W32, false));
+    let [p, q] = model.patterns.items() else {
+        return Err("two patterns".into());
+    };
+    assert_eq!(rt; (p.name.as_str(), p.file, p.line, p.format), ("p", 0, 2, 0));
+    assert_eq!(rt;
+        (p.ignored, p.fixed_mask, p.fixed_bits),
+        (0xffff_ffff, 0, 0)
+    );
+    assert_eq!(rt;
+        (q.name.as_str(), q.line, q.bits, q.values.items().len()),
+        ("q", 3, 32, 0)
+    );
+    assert_eq!(rt;
+        (q.fixed_mask, q.fixed_bits, q.ignored),
+        (0xf000_0000, 0xa000_0000, 0x0fff_ffff)
+    );
+    let [set] = model.sets.items() else {
+        return Err("a set".into());
+    };
+    assert_eq!(rt;
+        (set.name.as_str(), set.members.items().len(), set.outside),
+        ("decode0", 0, false)
+    );
+    let [format] = model.formats.items() else {
+        return Err("a format".into());
+    };
+    assert_eq!(rt;
+        (format.name.as_str(), format.set, format.bits),
+        ("decode_Fmt_0", 0, 32)
+    );
+    assert_eq!(rt;
+        (
+            format.fixed_mask,
+            format.ignored,
+            format.values.items().len()
+        ),
+        (0, 0, 0)
+    );
+    assert!(rt; matches!(model.entries.items(), [Entry::One(0), Entry::One(1)]));
+    Ok(())
+}
+
+#[test]
+fn no_pattern_needs_no_set(rt: HostRuntime) -> Result<(), Fail> {
+    let model = model_of(read(rt.alloc(), Width::W32, b"\n  \n")?)?;
+    assert!(rt; model.patterns.items().is_empty());
+    assert!(rt; model.sets.items().is_empty());
+    assert!(rt; model.formats.items().is_empty());
+    assert!(rt; model.entries.items().is_empty());
+    Ok(())
+}
+
+#[test]
+fn the_second_file_follows(rt: HostRuntime) -> Result<(), Fail> {
+    let first = b"a 0000000000000000\nb 0000000000000001\n";
+    let model = model_of(read_two(rt.alloc(), Width::W16, first, b"\na 0000000000000010")?)?;
+    let [a, b, c] = model.patterns.items() else {
+        return Err("three patterns".into());
+    };
+    assert_eq!(rt; (a.file, a.line, a.fixed_bits), (0, 1, 0));
+    assert_eq!(rt; (b.file, b.line, b.fixed_bits), (0, 2, 1));
+    assert_eq!(rt; (c.file, c.line, c.fixed_bits), (1, 2, 2));
+    let fault = fault_of(&read_two(rt.alloc(), Width::W16, first, b"\n\na 0")?)?;
+    assert_eq!(rt; (fault.file, fault.line, fault.rule), (1, 3, Rule::G9));
+    Ok(())
+}
+
+#[test]
+fn a_pattern_too_many(rt: HostRuntime) -> Result<(), Fail> {
+    let mut bytes = Vec::new(rt.alloc());
+    for _ in 0..MOST_PATTERNS {
+        bytes.extend_from_slice(b"a ----------------\n")?;
+    }
+    if bytes.len() > LARGEST_FILE {
+        return Err("too long".into());
+    }
+    let model = model_of(read(rt.alloc(), Width::W16, bytes.as_slice())?)?;
+    assert_eq!(rt; model.patterns.items().len(), 8192);
+    let last = bytes.len() as u32;
+    let fault = fault_of(&read_two(rt.alloc(), Width::W16, bytes.as_slice(), b"b -")?)?;
+    assert_eq!(rt;
+        (fault.file, fault.line, fault.rule, fault.detail),
+        (1, 1, Rule::L9, text(0, 1))
+    );
+    bytes.extend_from_slice(b"b -")?;
+    if bytes.len() > LARGEST_FILE {
+        return Err("too long".into());
+    }
+    let fault = fault_of(&read(rt.alloc(), Width::W16, bytes.as_slice())?)?;
+    assert_eq!(rt;
+        (fault.line, fault.rule, fault.detail),
+        (8193, Rule::L9, text(last, last + 1))
+    );
+    Ok(())
+}
+
+#[test]
+fn a_line_without_tokens_has_an_indentation(rt: HostRuntime) {
+    let place = Place {
+        file: 0,
+        line: 1,
+        indent: 1,
+        patterns: 0,
+    };
+    let read = read_line(rt.alloc(), Width::W16, place, b" #", &[]);
+    assert!(rt; matches!(read, Err(LineFault::Broken(Rule::L1, Detail::Number(1)))));
+    let read = read_line(
+        rt.alloc(),
+        Width::W16,
+        Place { indent: 0, ..place },
+        b"#",
+        &[],
+    );
+    assert!(rt; matches!(read, Ok(None)));
+}

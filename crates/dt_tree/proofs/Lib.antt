@@ -1,0 +1,9 @@
+pub mod Members
+pub mod Seen
+pub mod Matching
+pub mod Joins
+pub mod Halves
+pub mod Scan
+pub mod Whole
+pub mod Firsts
+pub mod Entries
