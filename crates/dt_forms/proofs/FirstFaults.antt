@@ -15,9 +15,6 @@ pub broken_front : (bytes : List ℕ) (fault : LineFault) (faults more : List Br
 broken_front bytes (line_faults.Broken rule detail) faults more h = record { is_first = first_front faults more _ h.is_first; within = h.within }
 broken_front bytes line_faults.NoMemory faults more h = tt
 
-pub broken_behind : (bytes : List ℕ) (fault : LineFault) (faults more : List Broken) → faults ≡ [] → LineBroken bytes fault more → LineBroken bytes fault (faults ++ more)
-broken_behind bytes fault faults more e h = subst (λ (fs : List Broken). LineBroken bytes fault (fs ++ more)) (sym e) h
-
 -- a line without tokens
 pub none_without_tokens : (bytes : List ℕ) (width n indent : ℕ) (spans : List Span) → spans ≡ [] → indent ≡ 0 → faults_in width (scope_of n) indent (map (text_at bytes) spans) ≡ []
 none_without_tokens bytes width n indent spans none is =
@@ -27,7 +24,3 @@ pub broken_without_tokens : (bytes : List ℕ) (width n indent : ℕ) (spans : L
     → LineBroken bytes fault (faults_in width (scope_of n) indent (map (text_at bytes) spans))
 broken_without_tokens bytes width n indent spans fault none h =
     subst (λ (ss : List Span). LineBroken bytes fault (faults_in width (scope_of n) indent (map (text_at bytes) ss))) (sym none) h
-
--- a line with tokens, by its three parts
-pub none_broken : (a b c : List Broken) → a ≡ [] → b ≡ [] → c ≡ [] → a ++ (b ++ c) ≡ []
-none_broken a b c e f g = ap (λ xs. xs ++ (b ++ c)) e ∙ ap (λ xs. xs ++ c) f ∙ g

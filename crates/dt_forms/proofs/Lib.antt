@@ -9,5 +9,4 @@ pub mod Kept
 pub mod Rising
 pub mod Soundness
 pub mod Made
-pub mod LineCounts
 pub mod TestSources

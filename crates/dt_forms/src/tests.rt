@@ -1,7 +1,6 @@
 //! Reads small files: the rule of each faulty line, and the models of sound ones.
 
-ghost use Rattle.std.specs.Prelude.{◌≡◌, ◌≢◌, ◌≤◌, ◌+◌, false, length, IfOk};
-ghost use Rattle.dt_lines.specs.Lines.{physical_lines};
+ghost use Rattle.std.specs.Prelude.{◌≡◌, ◌≤◌, false, length, IfOk};
 ghost use Rattle.dt_forms.specs.Options.{IsOptionName};
 ghost use Rattle.dt_forms.specs.Sources.{IsSourceAt};
 
@@ -11,7 +10,7 @@ use crate::{
 };
 use dt_fields::{Detail, Rule};
 use dt_lines::scan::logical;
-use dt_lines::{LARGEST_FILE, Span};
+use dt_lines::{LARGEST_FILE, Span, line_count};
 use dt_values::{Name, Width};
 use std::alloc::Global;
 use std::test::Fail;
@@ -29,37 +28,6 @@ fn options(width: Width) -> Options
         decode_static: true,
         translate: Name::from_bytes(b"trans").unwrap(),
         translate_static: true,
-    }
-}
-
-// How many physical lines there are, counted from the end.
-fn line_count(bytes: &[u8]) -> u32
-    requires { length bytes.now ≤ LARGEST_FILE }
-    ensures { result ≡ length (physical_lines bytes.now) }
-{
-    let mut count = 0;
-    let mut left = bytes.len();
-    while left > 0 {
-        left -= 1;
-        count = with_byte(count, bytes[left]);
-    }
-    count
-}
-
-// How many lines there are with one byte more before them.
-fn with_byte(count: u32, byte: u8) -> u32
-    requires { count ≤ LARGEST_FILE }
-    ensures newline { byte ≡ 10 → result ≡ count + 1 }
-    ensures first { byte ≢ 10 → count ≡ 0 → result ≡ 1 }
-    ensures other { byte ≢ 10 → count ≢ 0 → result ≡ count }
-    ensures bound { result ≤ count + 1 }
-{
-    if byte == b'\n' {
-        count + 1
-    } else if count == 0 {
-        1
-    } else {
-        count
     }
 }
 
