@@ -1,6 +1,6 @@
 //! What a field is made of.
 
-ghost use Rattle.std.specs.Prelude.{◌≡◌};
+ghost use Rattle.std.specs.Prelude.{◌≡◌, false};
 
 use dt_values::Name;
 use smallvec::SmallVec;
@@ -22,6 +22,21 @@ pub enum Segment {
         length: u8,
         signed: bool,
     },
+}
+
+/// The lowest bit, unsigned: a `SmallVec` fills its unused places with it.
+impl Default for Segment {
+    ghost use Rattle.dt_fields.specs.declared.field.Segment.TheVariants.{Bits};
+
+    fn default() -> Segment
+        ensures { result ≡ Bits 0 1 false }
+    {
+        Segment::Bits {
+            pos: 0,
+            length: 1,
+            signed: false,
+        }
+    }
 }
 
 /// The segments of a field, the most significant first. Contracts see the list of them.
