@@ -2,3 +2,4 @@ pub mod Lines
 pub mod Spans
 pub mod Faults
 pub mod Gathering
+pub mod Numbers

@@ -3,6 +3,7 @@
 
 pub mod fault;
 mod gather;
+pub mod laws;
 pub mod line;
 pub mod physical;
 pub mod scan;

@@ -1,6 +1,7 @@
 //! A logical line, and where its tokens lie in the file.
 
-ghost use Rattle.std.specs.Prelude.{◌≡◌};
+ghost use Rattle.std.specs.Prelude.{◌≡◌, length};
+ghost use Rattle.dt_lines.specs.Spans.{IsWithin, text_at};
 
 use std::marker::Model;
 
@@ -9,6 +10,16 @@ use std::marker::Model;
 pub struct Span {
     pub start: u32,
     pub end: u32,
+}
+
+impl Span {
+    /// The bytes of the token in those of its file.
+    pub fn text(self, bytes: &[u8]) -> &[u8]
+        requires { IsWithin (length bytes.now) self }
+        ensures { result.now ≡ text_at bytes.now self }
+    {
+        &bytes[self.start as usize..self.end as usize]
+    }
 }
 
 /// The tokens of a line, as their places in the file, in order.
