@@ -9,4 +9,5 @@ pub mod Kept
 pub mod Rising
 pub mod Soundness
 pub mod Made
-pub mod TestSources
+pub mod ReadSources
+pub mod SoundPatterns

@@ -1,55 +1,13 @@
 -- The places of pattern lines rise.
-use Rattle.std.proofs.Common.{◌≡◌, ℕ, zero, suc, ◌+◌, ◌<◌, ◌≤◌, List, [], ◌∷◌, ◌++◌, map, Option, Some, None, refl, ◌∙◌, subst, inl, inr, ⊎_elim, arith}
-use Rattle.std.specs.Prelude.{◌⊎◌, Bool, true, false, if◌then◌else◌}
+use Rattle.std.proofs.Common.{◌≡◌, ℕ, zero, suc, ◌+◌, ◌<◌, ◌≤◌, List, [], ◌∷◌, ◌++◌, length, map, Option, Some, None, refl, ◌∙◌, subst, inl, inr, ⊎_elim, arith}
+use Rattle.std.specs.Prelude.{◌⊎◌}
 use Rattle.std.specs.List.{All, AllPairs, cons_option}
 use Rattle.std.proofs.lemmas.List.Elements.{All-nil, All-cons, All-map, All-weaker}
-use Rattle.dt_lines.specs.Lines.{Line, logical_lines, lines_from, continued, physical_lines, indentation, line_tokens, is_blank, ends_in_backslash, without_last, if_tokens}
+use Rattle.dt_lines.specs.Lines.{Line, logical_lines, physical_lines}
+use Rattle.dt_lines.proofs.Numbers.{LinesRise, lines_later, logical_lines_rise}
 use Rattle.dt_forms.specs.Patterns.{PatternLine, pattern_in, pattern_line, pattern_lines_in, pattern_lines_from, pattern_lines}
 use Rattle.dt_forms.specs.Sound.{IsBefore}
 use Rattle.dt_forms.specs.View.{kept_pattern}
-
--- lines from this number on, each below the next
-abbrev pub LinesRise : ℕ → List Line → Type 0
-LinesRise number [] = Unit {0}
-LinesRise number (l ∷ ls) = (number ≤ l.line) × LinesRise (l.line + 1) ls
-
-lines_later : (n m : ℕ) (ls : List Line) → n ≤ m → LinesRise m ls → LinesRise n ls
-lines_later n m [] h k = tt
-lines_later n m (l ∷ ls) h k = (let le : m ≤ l.line = k.0 in omega arith, k.1)
-
-chosen : (number : ℕ) (test : Bool) (kept : List (List ℕ)) (some none ended : List Line) → LinesRise number some → LinesRise number none → LinesRise number ended → LinesRise number (if test then if_tokens kept some none else ended)
-chosen number true [] some none ended h k l = k
-chosen number true (token ∷ more) some none ended h k l = h
-chosen number false kept some none ended h k l = l
-
-blank_or : (number : ℕ) (test : Bool) (skipped line : List Line) → LinesRise number skipped → LinesRise number line → LinesRise number (if test then skipped else line)
-blank_or number true skipped line h k = h
-blank_or number false skipped line h k = k
-
-mutual
-  lines_from_rise : (number : ℕ) (texts : List (List ℕ)) → LinesRise number (lines_from number texts)
-  lines_from_rise number [] = tt
-  lines_from_rise number (text ∷ texts) =
-      let line : Line = record { line = number; indent = indentation text; tokens = line_tokens text } in
-      let longer : Line = record line { tokens = without_last line.tokens } in
-      let anew : LinesRise (number + 1) (lines_from (number + 1) texts) = lines_from_rise (number + 1) texts in
-      let skipped : LinesRise number (lines_from (number + 1) texts) = lines_later number (number + 1) (lines_from (number + 1) texts) (omega arith) anew in
-      blank_or number (is_blank text) _ _ skipped
-      (chosen number (ends_in_backslash line.tokens) (without_last line.tokens) _ _ _ (continued_rise longer (number + 1) texts (omega arith)) skipped (omega arith, anew))
-
-  continued_rise : (line : Line) (number : ℕ) (texts : List (List ℕ)) → line.line + 1 ≤ number → LinesRise line.line (continued line number texts)
-  continued_rise line number [] h = (omega arith, tt)
-  continued_rise line number (text ∷ texts) h =
-      let more : Line = record line { tokens = line.tokens ++ line_tokens text } in
-      let longer : Line = record more { tokens = without_last more.tokens } in
-      let anew : LinesRise (number + 1) (lines_from (number + 1) texts) = lines_from_rise (number + 1) texts in
-      chosen line.line (ends_in_backslash more.tokens) (without_last more.tokens) _ _ _ (continued_rise longer (number + 1) texts (omega arith))
-      (lines_later line.line (number + 1) (lines_from (number + 1) texts) (omega arith) anew)
-      (omega arith, lines_later (line.line + 1) (number + 1) (lines_from (number + 1) texts) (omega arith) anew)
-
--- the only lemma here that reads how dt_lines makes its lines
-pub logical_lines_rise : (text : List ℕ) → LinesRise 1 (logical_lines text)
-logical_lines_rise text = lines_from_rise 1 (physical_lines text)
 
 -- a place from which on a pattern line lies
 abbrev pub IsFrom : ℕ → ℕ → PatternLine → Type 0
@@ -89,15 +47,17 @@ cons_option_append : (o : Option PatternLine) (ps qs : List PatternLine) → con
 cons_option_append None ps qs = refl
 cons_option_append (Some p) ps qs = refl
 
-file_rises : (file line : ℕ) (ls : List Line) (later : List PatternLine) → LinesRise line ls → Rises (file + 1) 0 later → Rises file line (pattern_lines_in file ls ++ later)
-file_rises file line [] later h k = rises_next_file file line later k
-file_rises file line (l ∷ ls) later h k =
+file_rises : (file line last : ℕ) (ls : List Line) (later : List PatternLine) → LinesRise line last ls → Rises (file + 1) 0 later → Rises file line (pattern_lines_in file ls ++ later)
+file_rises file line last [] later h k = rises_next_file file line later k
+file_rises file line last (l ∷ ls) later h k =
     subst (λ (ps : List PatternLine). Rises file line ps) (cons_option_append (pattern_line file l) (pattern_lines_in file ls) later)
-    (one_more_line file l.line line l.tokens (pattern_lines_in file ls ++ later) h.0 (file_rises file (l.line + 1) ls later h.1 k))
+    (one_more_line file l.line line l.tokens (pattern_lines_in file ls ++ later) h.0 (file_rises file (l.line + 1) last ls later h.2 k))
 
 files_rise : (file : ℕ) (texts : List (List ℕ)) → Rises file 0 (pattern_lines_from file texts)
 files_rise file [] = tt
-files_rise file (text ∷ texts) = file_rises file 0 (logical_lines text) (pattern_lines_from (file + 1) texts) (lines_later 0 1 (logical_lines text) (omega arith) (logical_lines_rise text)) (files_rise (file + 1) texts)
+files_rise file (text ∷ texts) =
+    let last : ℕ = length (physical_lines text) in
+    file_rises file 0 last (logical_lines text) (pattern_lines_from (file + 1) texts) (lines_later 0 1 last (logical_lines text) (omega arith) (logical_lines_rise text)) (files_rise (file + 1) texts)
 
 all_from : (file line : ℕ) (ps : List PatternLine) → Rises file line ps → All (IsFrom file line) ps
 all_from file line [] h = All-nil (IsFrom file line)

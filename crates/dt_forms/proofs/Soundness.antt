@@ -62,7 +62,7 @@ masks_apart (b ∷ bs) =
     ∙ ap (λ r. 0 * 2 ^ length bs + r) (masks_apart bs)
     ∙ (let none : 0 * 2 ^ length bs + 0 ≡ 0 = omega arith in none)
 
-line_masks : (width : ℕ) (p : PatternLine) → HasWidth width p → HasMasks width (kept_pattern p)
+pub line_masks : (width : ℕ) (p : PatternLine) → HasWidth width p → HasMasks width (kept_pattern p)
 line_masks width p long = record {
   fixed_below = subst (λ n. number_of fixed_digit p.bits < 2 ^ n) long (number_below Fixed p.bits);
   ignored_below = subst (λ n. number_of ignored_digit p.bits < 2 ^ n) long (number_below Ignored p.bits);

@@ -6,6 +6,7 @@ pub mod entry;
 pub mod fault;
 pub mod form;
 mod infer;
+pub mod laws;
 mod line;
 pub mod model;
 pub mod options;

@@ -102,7 +102,7 @@ fn name_of(bytes: &[u8], place: Place, first: Span, tokens: &[Span]) -> Result<N
     ensures kept { OnOk result (head_faults (scope_of place.patterns) place.indent (text_at bytes.now first) (map (text_at bytes.now) tokens.now) ≡ []) }
     ensures broken { IfErr result (λ fault. LineBroken bytes.now fault (head_faults (scope_of place.patterns) place.indent (text_at bytes.now first) (map (text_at bytes.now) tokens.now))) }
 {
-    let text = text_of(bytes, first);
+    let text = first.text(bytes);
     if is_not_built(bytes, text, tokens) {
         return Err(LineFault::Broken(Rule::N2, Detail::None));
     }
@@ -152,7 +152,7 @@ fn has_other_token(bytes: &[u8], tokens: &[Span]) -> bool
     ensures { result ≡ list_any is_other_token (map (text_at bytes.now) tokens.now) }
 {
     for token in tokens {
-        if !has_bits(text_of(bytes, *token)) {
+        if !has_bits(token.text(bytes)) {
             return true;
         }
     }
@@ -175,7 +175,7 @@ fn check_tokens(width: Width, bytes: &[u8], tokens: &[Span]) -> Result<(), LineF
     let most = width.bits() as usize;
     let mut count = 0;
     for token in tokens {
-        let text = text_of(bytes, *token);
+        let text = token.text(bytes);
         if text.len() > most - count {
             return Err(LineFault::Broken(Rule::G8, Detail::Text(*token)));
         }
@@ -192,7 +192,7 @@ fn joined(alloc: Global, bytes: &[u8], tokens: &[Span]) -> Result<Vec<u8>, LineF
 {
     let mut bits = Vec::new(alloc);
     for token in tokens {
-        if bits.extend_from_slice(text_of(bytes, *token)).is_err() {
+        if bits.extend_from_slice(token.text(bytes)).is_err() {
             return Err(LineFault::NoMemory);
         }
     }
@@ -231,12 +231,4 @@ fn masks_of(width: Width, bits: &[u8]) -> Result<Masks, LineFault>
         fixed_mask,
         ignored,
     })
-}
-
-// The bytes of a token.
-fn text_of(bytes: &[u8], span: Span) -> &[u8]
-    requires { IsWithin (length bytes.now) span }
-    ensures { result.now ≡ text_at bytes.now span }
-{
-    &bytes[span.start as usize..span.end as usize]
 }

@@ -5,12 +5,9 @@ ghost use Rattle.dt_forms.specs.Options.{IsOptionName};
 ghost use Rattle.dt_forms.specs.Sources.{IsSourceAt};
 
 use crate::line::{LineFault, Place, read_line};
-use crate::{
-    Bytes, Entry, Fault, Lines, MOST_PATTERNS, Model, ModelFault, Options, Source, read_model,
-};
+use crate::{Entry, Fault, MOST_PATTERNS, Model, ModelFault, Options, Source, read_model};
 use dt_fields::{Detail, Rule};
-use dt_lines::scan::logical;
-use dt_lines::{LARGEST_FILE, Span, line_count};
+use dt_lines::{LARGEST_FILE, Span};
 use dt_values::{Name, Width};
 use std::alloc::Global;
 use std::test::Fail;
@@ -36,14 +33,8 @@ fn source(alloc: Global, file: u16, text: &[u8]) -> Result<Source, Fail>
     requires { length text.now ≤ LARGEST_FILE }
     ensures { IfOk result (IsSourceAt file) }
 {
-    let lines = logical(alloc, file, text)?;
-    let mut bytes = Vec::new(alloc);
-    bytes.extend_from_slice(text)?;
-    Ok(Source {
-        bytes: Bytes::of(bytes),
-        lines: Lines::of(lines),
-        last_line: line_count(text),
-    })
+    let source = Source::read(alloc, file, Vec::from_slice(alloc, text)?)?;
+    Ok(source)
 }
 
 // What is read of one file.

@@ -1,4 +1,4 @@
-use Rattle.dt_forms.proofs.TestSources.{two_sources}
+use Rattle.dt_forms.proofs.ReadSources.{two_sources}
 use Rattle.dt_forms.proofs.tests.read_two.Goals as goal
 
 pub read_model-requires-clause-sources : goal.read_model-requires-clause-sources

@@ -1,4 +1,4 @@
--- Files as the tests make them.
+-- Files with the lines that are read of them.
 use Rattle.std.proofs.Common.{◌≡◌, ℕ, zero, suc, ◌≤◌, List, [], ◌∷◌, length, map, ap, ◌∙◌, sym, subst, arith}
 use Rattle.std.specs.List.{All}
 use Rattle.dt_lines.specs.Lines.{logical_lines, physical_lines}
@@ -25,3 +25,11 @@ both_sources a b h k (suc (suc n)) d below = absurd (omega arith)
 
 pub two_sources : (files : List Source) (a b : Source) → files ≡ a ∷ b ∷ [] → IsSourceAt 0 a → IsSourceAt 1 b → AreSources files
 two_sources files a b e h k = subst (λ (fs : List Source). AreSources fs) (sym e) (both_sources a b h k)
+
+-- the sources of one file
+pub one_source : (files : List Source) (a : Source) → files ≡ a ∷ [] → IsSourceAt 0 a → AreSources files
+one_source files a e h = subst (λ (fs : List Source). AreSources fs) (sym e) alone
+  where
+    alone : AreSources (a ∷ [])
+    alone zero d below = h
+    alone (suc n) d below = absurd (omega arith)
