@@ -6,4 +6,5 @@ pub mod Halves
 pub mod Scan
 pub mod Whole
 pub mod Firsts
-pub mod Entries
+pub mod Total
+pub mod Named

@@ -1,3 +1,4 @@
 pub mod Knots
 pub mod Split
 pub mod Refusals
+pub mod Places

@@ -1,6 +1,6 @@
 //! Laws of knots: public functions whose contracts are the laws, and whose bodies are empty.
 
-ghost use Rattle.std.specs.Prelude.{◌≡◌, ◌<◌, ◌↔◌, ℕ, true, List, ◌++◌, length, All, Contains};
+ghost use Rattle.std.specs.Prelude.{◌≡◌, ◌<◌, ◌↔◌, ◌⊎◌, ℕ, true, List, ◌++◌, length, All, Contains};
 ghost use Rattle.dt_forms.specs.Patterns.{Pattern, Matches};
 ghost use Rattle.dt_tree.specs.Knots.{pattern_at, IsKnot, IsParted, IsFirstKnot, IsWhole, HaveOneWord};
 
@@ -14,6 +14,11 @@ pub fn law_knots_join()
 pub fn law_one_first_knot()
     ensures one { (ps : List Pattern) (ks ls : List ℕ) → IsFirstKnot ps ks → IsFirstKnot ps ls → ks ≡ ls }
     ensures none { (ps : List Pattern) (ks : List ℕ) → IsParted ps → IsFirstKnot ps ks → ⊥ }
+{}
+
+/// A list is parted or has a first knot.
+pub fn law_some_first_knot()
+    ensures { (ps : List Pattern) → IsParted ps ⊎ ((places : List ℕ) × IsFirstKnot ps places) }
 {}
 
 /// Two different members of a parted list never match one word.

@@ -3,6 +3,7 @@
 
 pub mod fault;
 pub mod laws;
+pub mod lookup;
 mod split;
 pub mod tree;
 

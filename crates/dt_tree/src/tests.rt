@@ -5,6 +5,7 @@ ghost use Rattle.dt_forms.specs.Trees.{items_of, items_from, numbers_from, entri
 ghost use Rattle.dt_forms.specs.Trees.Item.{one};
 ghost use Rattle.dt_tree.specs.Knots.{patterns_of};
 
+use crate::lookup::pattern_of;
 use crate::{Places, Tree, TreeFault};
 use dt_forms::{Entry, EntryList, FormatList, Model, Pattern, PatternList, SetList, Values};
 use dt_values::{Name, Width};
@@ -62,7 +63,7 @@ fn patterns_in(alloc: Global, rows: &[Row]) -> Result<PatternList, AllocError>
     Ok(PatternList::of(patterns))
 }
 
-#[tactic(auto, using(crate::proofs::Entries::one_more))]
+#[tactic(auto, using(dt_forms::proofs::Entries::one_more))]
 fn entries_in_order(alloc: Global, count: u32) -> Result<EntryList, AllocError>
     ensures { IfOk result (λ list. items_of list ≡ items_from (map one (numbers_from 0 count))) }
 {
@@ -164,6 +165,17 @@ fn a_pattern_that_fixes_nothing(rt: HostRuntime) -> Result<(), Fail> {
     assert_eq!(rt; places.items(), [(0, 1), (0, 2)].as_slice());
     assert!(rt; knot_in(rt.alloc(), &[nothing])?.is_none());
     assert!(rt; knot_in(rt.alloc(), &[])?.is_none());
+    Ok(())
+}
+
+#[test]
+fn the_pattern_at_a_place(rt: HostRuntime) -> Result<(), Fail> {
+    let rows = [row_of(4, b"11--------------")];
+    let patterns = patterns_in(rt.alloc(), &rows)?;
+    let pattern = pattern_of(patterns.items(), 0, 4).ok_or("a pattern")?;
+    assert_eq!(rt; pattern.fixed_mask, rows[0].mask);
+    assert!(rt; pattern_of(patterns.items(), 0, 3).is_none());
+    assert!(rt; pattern_of(patterns.items(), 1, 4).is_none());
     Ok(())
 }
 
