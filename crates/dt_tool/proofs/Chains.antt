@@ -5,7 +5,7 @@ use Rattle.std.proofs.lemmas.Bool.Decides.{nat_tests}
 use Rattle.std.proofs.lemmas.Nat.{and_le_r}
 use Rattle.std.proofs.lemmas.List.Elements.{All-head, All-tail}
 use Rattle.c_subset.specs.Programs.{Name, Stmts, done, Program}
-use Rattle.dt_tool.specs.Patterns.{Pattern, matches}
+use Rattle.dt_forms.specs.Patterns.{Pattern, matches}
 use Rattle.dt_tool.specs.Layout.{inferred_set, inferred_format, body_then, test_then, chain, chain_program}
 use Rattle.dt_tool.specs.Hosts.{Call, Host}
 use Rattle.dt_tool.specs.Trial.{Trial, call_of, answered, tried, trial_of}

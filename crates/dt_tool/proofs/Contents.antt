@@ -1,27 +1,55 @@
--- A text or a refusal is due for some content of the named file.
-use Rattle.std.proofs.Common.{◌≡◌, ℕ, ◌+◌, ◌≤◌, List, length, Option, Some, refl, ap, sym, ◌∙◌, arith, true, false, subst, replicate}
-use Rattle.std.specs.Prelude.{nat_lt, Result, Ok, Err, Vec, IsErrAnd}
+-- What stops a load is due, for the folder's file and for some content of it.
+use Rattle.std.proofs.Common.{◌≡◌, ℕ, ◌+◌, ◌<◌, List, length, Option, Some, None, refl, ap, sym, subst, arith, replicate, inl, inr}
+use Rattle.std.specs.Prelude.{Result, Ok, Err, Vec, IfSome, IsErrAnd}
+use Rattle.std.specs.FinMap as files_by_name
 use Rattle.std.proofs.lemmas.List.{length-replicate}
-use Rattle.std.proofs.lemmas.Bool.Decides.{nat_tests}
-use Rattle.dt_io.specs.Files.{Files}
+use Rattle.dt_io.specs.Files.{Files, Held}
 use Rattle.dt_tool.specs.Words.{file_named}
 use Rattle.dt_tool.specs.Messages as said
-use Rattle.dt_tool.specs.Due.{refused, limit, verdict, due_of_verdict, due_of_bytes}
-use Rattle.dt_tool.specs.Stops.{AnswersDue, IsForSome, StopsLoad}
+use Rattle.dt_tool.specs.Verdicts.{too_large, limit}
+use Rattle.dt_tool.specs.Due.{missing, refused, IsDue, IsDueOf, IsDueOfFile, IsDueOfInput}
+use Rattle.dt_tool.specs.Stops.{AnswersDue, IsForSome, IsMissing, StopsLoad}
 use Rattle.dt_tool.specs.declared.generate.Stop.{Stop}
 use Rattle.dt_tool.specs.declared.generate.Stop.TheVariants as stops
+use Rattle.dt_tool.proofs.Refusing.{handed_on}
 
-within : (n : ℕ) → n ≤ limit → nat_lt limit n ≡ false
-within n h = grind (arith, nat_tests)
+large_due : (file bytes text : List ℕ) → limit < length bytes → text ≡ said.too_large file → IsDueOf file bytes (refused text)
+large_due file bytes text large is = record { verdict = too_large; stands = large; due = ap refused (sym is) }
 
-beyond : (n : ℕ) → n ≡ limit + 1 → nat_lt limit n ≡ true
-beyond n h = grind (arith, nat_tests)
+-- a file that isn't held is missing
+missing_due : (words : List (List ℕ)) (files : Files) (file : List ℕ) → file_named words ≡ Some file → files_by_name.get files file ≡ None → IsMissing (IsDue words files)
+missing_due words files file named none = record {
+  file = file;
+  due = subst (λ (n : Option (List ℕ)). IsDueOfFile n files (missing file)) (sym named) (subst (λ (held : Option (List ℕ)). IsDueOfInput file held (missing file)) (sym none) refl);
+}
 
-due_within : (file bytes : List ℕ) → length bytes ≤ limit → due_of_bytes file bytes ≡ due_of_verdict file bytes (verdict bytes)
-due_within file bytes h = rw (within (length bytes) h) refl
+-- what `Held` says of a told file over the limit
+abbrev IsLarge : Option (List ℕ) → Type 0
+IsLarge None = ⊥
+IsLarge (Some bytes) = limit < length bytes
 
-due_beyond : (file bytes : List ℕ) → length bytes ≡ limit + 1 → due_of_bytes file bytes ≡ refused (said.too_large file)
-due_beyond file bytes h = rw (beyond (length bytes) h) refl
+held_due : (file text : List ℕ) (held : Option (List ℕ)) → IsLarge held → text ≡ said.too_large file → IsDueOfInput file held (refused text)
+held_due file text None h is = absurd h
+held_due file text (Some bytes) h is = large_due file bytes text h is
+
+refused_due : (words : List (List ℕ)) (files : Files) (file text : List ℕ) → file_named words ≡ Some file → Held (Some files) file (λ held. limit < length held) → text ≡ said.too_large file → IsDue words files (refused text)
+refused_due words files file text named large is =
+    subst (λ (n : Option (List ℕ)). IsDueOfFile n files (refused text)) (sym named) (held_due file text (files_by_name.get files file) large is)
+
+-- what stops a load answers what is due, where the files are told
+pub stopped_due : (A : Type 0) (words : List (List ℕ)) (file : List ℕ) (told : Option Files) (Missed Failed : Type 0) (stop : Stop) → file_named words ≡ Some file → StopsLoad told file Missed Failed stop
+    → IfSome told (λ files. AnswersDue {A = A} Failed (Err stop) (IsDue words files))
+stopped_due A words file None Missed Failed stop named is = tt
+stopped_due A words file (Some files) Missed Failed stops.Usage named is = absurd is
+stopped_due A words file (Some files) Missed Failed (stops.ReadFault message) named is = elim is.2 [ inl none ↦ inl (missing_due words files file named none) | inr failed ↦ inr failed ]
+stopped_due A words file (Some files) Missed Failed (stops.Refused message) named is = refused_due words files file message.items named is.1 is.0
+stopped_due A words file (Some files) Missed Failed stops.NoMemory named is = tt
+
+-- the same of what a `?` hands on
+pub stop_answers : (A : Type 0) (words : List (List ℕ)) (file : List ℕ) (told : Option Files) (Missed Failed : Type 0) (stop : Stop) (result : Result (Vec ℕ A) Stop) → IsErrAnd result (λ handed. handed ≡ stop)
+    → file_named words ≡ Some file → StopsLoad told file Missed Failed stop → IfSome told (λ files. AnswersDue Failed result (IsDue words files))
+stop_answers A words file told Missed Failed stop result is named stops =
+    handed_on (λ r. IfSome told (λ files. AnswersDue Failed r (IsDue words files))) result stop is (stopped_due A words file told Missed Failed stop named stops)
 
 -- some bytes of this length
 pub record OfLength (n : ℕ) : Type 0 where
@@ -31,24 +59,21 @@ pub record OfLength (n : ℕ) : Type 0 where
 of_length : (n : ℕ) → OfLength n
 of_length n = record { bytes = replicate n 0; length = length-replicate n 0 }
 
-pub made_for_some : {A : Type 0} (words : List (List ℕ)) (file bytes : List ℕ) (result : Result (Vec ℕ A) Stop) → file_named words ≡ Some file → length bytes ≤ limit
-    → AnswersDue ⊥ result (due_of_verdict file bytes (verdict bytes)) → IsForSome result words
-made_for_some words file bytes (Ok text) named small is = record { file = file; bytes = bytes; named = named; due = due_within file bytes small ∙ is }
-made_for_some words file bytes (Err stops.Usage) named small is = tt
-made_for_some words file bytes (Err (stops.ReadFault message)) named small is = tt
-made_for_some words file bytes (Err (stops.Refused message)) named small is = record { file = file; bytes = bytes; named = named; due = due_within file bytes small ∙ is }
-made_for_some words file bytes (Err stops.NoMemory) named small is = tt
-
-pub stopped_for_some : (A : Type 0) (words : List (List ℕ)) (file : List ℕ) (told : Option Files) (Missed Failed : Type 0) (stop : Stop) → file_named words ≡ Some file
-    → StopsLoad told file Missed Failed stop → IsForSome {A = A} (Err stop) words
+-- and is due for some content, told or not
+pub stopped_for_some : (A : Type 0) (words : List (List ℕ)) (file : List ℕ) (told : Option Files) (Missed Failed : Type 0) (stop : Stop) → file_named words ≡ Some file → StopsLoad told file Missed Failed stop
+    → IsForSome {A = A} (Err stop) words
 stopped_for_some A words file told Missed Failed stops.Usage named is = tt
 stopped_for_some A words file told Missed Failed (stops.ReadFault message) named is = tt
 stopped_for_some A words file told Missed Failed (stops.Refused message) named is =
     let long : OfLength (limit + 1) = of_length (limit + 1) in
-    record { file = file; bytes = long.bytes; named = named; due = due_beyond file long.bytes long.length ∙ ap refused (sym is.0) }
+    let size : length long.bytes ≡ limit + 1 = long.length in
+    record { file = file; bytes = long.bytes; named = named; due = large_due file long.bytes message.items (omega arith) is.0 }
 stopped_for_some A words file told Missed Failed stops.NoMemory named is = tt
 
--- what a `?` hands on
-pub handed_on : {A : Type 0} (words : List (List ℕ)) (result : Result (Vec ℕ A) Stop) (stop : Stop) → IsErrAnd result (λ handed. handed ≡ stop) → IsForSome {A = A} (Err stop) words → IsForSome result words
-handed_on words (Ok text) stop is for_some = absurd is
-handed_on {A} words (Err handed) stop is for_some = let P : Stop → Type 0 = λ s. IsForSome {A = A} (Err s) words in subst P (sym is) for_some
+-- what is made of a file's bytes is due for them
+pub made_for_some : {A : Type 0} (words : List (List ℕ)) (file bytes : List ℕ) (result : Result (Vec ℕ A) Stop) → file_named words ≡ Some file → AnswersDue ⊥ result (IsDueOf file bytes) → IsForSome result words
+made_for_some words file bytes (Ok text) named is = record { file = file; bytes = bytes; named = named; due = is }
+made_for_some words file bytes (Err stops.Usage) named is = tt
+made_for_some words file bytes (Err (stops.ReadFault message)) named is = tt
+made_for_some words file bytes (Err (stops.Refused message)) named is = record { file = file; bytes = bytes; named = named; due = is }
+made_for_some words file bytes (Err stops.NoMemory) named is = tt

@@ -6,7 +6,7 @@ use Rattle.std.proofs.lemmas.List.Elements.{All-nil, All-cons, All-weaker}
 use Rattle.std.proofs.lemmas.Slice.Eq.{bytes_eq-Decides}
 use Rattle.dt_values.specs.Types.{is_text}
 use Rattle.c_subset.specs.Programs.{Name}
-use Rattle.dt_tool.specs.Patterns.{Pattern}
+use Rattle.dt_forms.specs.Patterns.{Pattern}
 use Rattle.dt_tool.specs.Layout.{inferred_set, first_names, names_of, declared_pattern, chain_program}
 use Rattle.dt_tool.specs.Run.{is_pattern_declared}
 

@@ -1,15 +1,23 @@
 -- The layout of a file's patterns decodes them.
-use Rattle.std.proofs.Common.{◌≡◌, ℕ, ◌≤◌, List, length, subst, sym, ap, ◌∙◌, arith}
-use Rattle.dt_tool.specs.Patterns.{Pattern, flat_list}
+use Rattle.std.proofs.Common.{◌≡◌, ℕ, ◌<◌, ◌≤◌, ◌^◌, List, [], ◌∷◌, length, None, subst, sym, ap, ◌∙◌, arith}
+use Rattle.std.proofs.lemmas.List.Elements.{All-nil, All-cons}
+use Rattle.dt_forms.specs.Patterns.{Pattern}
+use Rattle.dt_forms.specs.Rules.{first_fault}
+use Rattle.dt_forms.proofs.SoundPatterns.{flat_list_sound}
 use Rattle.dt_tool.specs.Layout.{layout}
 use Rattle.dt_tool.specs.Sound.{AreSound}
 use Rattle.dt_tool.specs.Agrees.{AreUnderMasks}
 use Rattle.dt_tool.specs.Hosts.{script}
 use Rattle.dt_tool.specs.Decoders.{IsDecoder}
+use Rattle.dt_tool.specs.Verdicts.{patterns_of, width}
 use Rattle.dt_tool.proofs.Law.{layout_tokens}
 use Rattle.dt_tool.proofs.Rules.{keeps_rules}
-use Rattle.dt_tool.proofs.FlatLists.{flat_list_sound}
 use Rattle.dt_tool.proofs.Chains.{program_agrees}
+
+pub file_sound : (bytes : List ℕ) → length bytes < 2 ^ 32 → first_fault width (bytes ∷ []) ≡ None → AreSound (patterns_of bytes)
+file_sound bytes small unbroken =
+    let Small : List ℕ → Type 0 = λ t. length t < 2 ^ 32 in
+    flat_list_sound width (bytes ∷ []) (omega arith) (All-cons Small bytes [] small (All-nil Small)) unbroken
 
 under_masks : (ps : List Pattern) → AreSound ps → AreUnderMasks ps
 under_masks ps sound k d h = (sound k d h).bits_in_mask
@@ -20,7 +28,7 @@ layout_decodes ps sound = record {
   calls = λ word outcomes. program_agrees (script outcomes) ps word 0 (under_masks ps sound);
 }
 
-pub text_decodes : (bytes text : List ℕ) (ps : List Pattern) → length bytes ≤ 4194304 → ps ≡ flat_list bytes → text ≡ layout ps → IsDecoder text (flat_list bytes)
-text_decodes bytes text ps small is laid =
-    let P : List ℕ → Type 0 = λ t. IsDecoder t (flat_list bytes) in
-    subst P (sym (laid ∙ ap layout is)) (layout_decodes (flat_list bytes) (flat_list_sound bytes (omega arith)))
+pub text_decodes : (bytes text : List ℕ) (ps : List Pattern) → length bytes ≤ 4194304 → first_fault width (bytes ∷ []) ≡ None → ps ≡ patterns_of bytes → text ≡ layout ps → IsDecoder text (patterns_of bytes)
+text_decodes bytes text ps small unbroken is laid =
+    let P : List ℕ → Type 0 = λ t. IsDecoder t (patterns_of bytes) in
+    subst P (sym (laid ∙ ap layout is)) (layout_decodes (patterns_of bytes) (file_sound bytes (omega arith) unbroken))

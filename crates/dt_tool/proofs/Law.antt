@@ -12,7 +12,7 @@ use Rattle.c_subset.specs.Programs as c
 use Rattle.c_subset.specs.Programs.{Name, extract, call, Stmts, set_spelled, pattern_spelled, extract_spelled, if_spelled, spelled, all_spelled, union_spelled, decoder_head_spelled, decoder_end_spelled, prefix_of, spelling}
 use Rattle.c_subset.proofs.Lexing.{Lexes, lexes_none, lexes-append, tokens_from}
 use Rattle.c_subset.proofs.Words.{hex_word_is, decimal_word_is, name_is_word}
-use Rattle.dt_tool.specs.Patterns.{Pattern}
+use Rattle.dt_forms.specs.Patterns.{Pattern}
 use Rattle.dt_tool.specs.Sound.{IsSound, AreSound}
 use Rattle.dt_tool.specs.Layout.{decoder, prefix, inferred_set, inferred_format, first_names, names_of, declared_pattern, inferred_extraction, test_then, chain, chain_program, head_line, set_lines, prototype_lines, extract_lines, decoder_head_lines, union_lines, comment_line, extract_line, call_line, body_lines, if_line, close_line, test_lines, pattern_lines, end_lines, pieces, layout}
 

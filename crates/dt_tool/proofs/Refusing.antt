@@ -1,28 +1,125 @@
 -- A refusal says what is due.
-use Rattle.std.proofs.Common.{◌≡◌, ℕ, List, Some, ap, sym, ◌∙◌, subst}
-use Rattle.std.specs.Prelude.{Result, Ok, Err, String, IfOk, MatchResult}
-use Rattle.std.specs.String.{string_bytes}
+use Rattle.std.proofs.Common.{◌≡◌, ℕ, ◌<◌, ◌≤◌, List, [], ◌∷◌, length, map, get_or, Option, Some, None, refl, ap, sym, ◌∙◌, subst}
+use Rattle.std.specs.Prelude.{Result, Ok, Err, Vec, All, IfOk, MatchResult, IsErrAnd}
 use Rattle.std.specs.declared.alloc.Global.{Global}
-use Rattle.dt_lines.specs.Lines.{logical_lines}
+use Rattle.std.proofs.lemmas.List.{length-map}
+use Rattle.std.proofs.lemmas.List.Elements.{Contains-get_or}
 use Rattle.dt_lines.specs.Faults as faults
-use Rattle.dt_lines.specs.Faults.{line_fault}
+use Rattle.dt_lines.specs.Faults.{FileFault, line_fault}
+use Rattle.dt_lines.specs.Lines.{Line, logical_lines}
+use Rattle.dt_forms.specs.declared.form.Pattern.{Pattern as Kept}
+use Rattle.dt_forms.specs.Patterns.{Pattern}
+use Rattle.dt_forms.specs.Rules.{Broken, Fault, Scope, scope_of, fault_or, or_later, faults_of_line, after_line, fault_in_lines, first_fault}
+use Rattle.dt_forms.specs.View.{pattern_seen, fault_seen, texts_of, text_of_file, IsReported}
+use Rattle.dt_forms.specs.declared.fault.Fault.{Fault as Reported}
+use Rattle.dt_forms.specs.declared.source.Source.{Source}
+use Rattle.dt_tree.specs.Knots.{pattern_at, IsFirstKnot}
+use Rattle.dt_tree.specs.Refusals.{file_and_line, ShowsFirstKnot}
 use Rattle.dt_tool.specs.Messages as said
-use Rattle.dt_tool.specs.Patterns.{first_broken, flat_list}
-use Rattle.dt_tool.specs.Overlaps.{first_overlap_of}
-use Rattle.dt_tool.specs.Due.{Due, refused, verdict, verdict_of, due_of_verdict}
-use Rattle.dt_tool.specs.Stops.{Refuses}
+use Rattle.dt_tool.specs.Verdicts.{broken, overlapping, width, limit, first_of, first_broken, patterns_of}
+use Rattle.dt_tool.specs.Due.{Due, refused, IsDueOf}
+use Rattle.dt_tool.specs.Stops.{AnswersDue, Refuses, RefusesKnot}
 use Rattle.dt_tool.specs.declared.generate.Stop.{Stop}
 use Rattle.dt_tool.specs.declared.generate.Stop.TheVariants as stops
 
-refuses : {E : Type 0} (message : Result (String Global) E) (stop : Stop) (what : Due) (text : List ℕ) → what ≡ refused text → IfOk message (λ made. string_bytes made ≡ text)
-    → MatchResult message (λ made. stop ≡ stops.Refused made) (λ _. stop ≡ stops.NoMemory) → Refuses stop what
-refuses (Ok made) stop what text is made_is stop_is = let P : Stop → Type 0 = λ s. Refuses s what in subst P (sym stop_is) (is ∙ ap refused (sym made_is))
-refuses (Err e) stop what text is made_is stop_is = let P : Stop → Type 0 = λ s. Refuses s what in subst P (sym stop_is) tt
+-- a rule that the file breaks first is due
+pub broken_due : (file bytes : List ℕ) (fault : Fault) → length bytes ≤ limit → first_broken bytes ≡ Some fault → IsDueOf file bytes (refused (said.broken file fault))
+broken_due file bytes fault small first = record { verdict = broken fault; stands = record { small = small; first = first }; due = refl }
 
--- a long name at a line
-pub refuses_long_name : {E : Type 0} (message : Result (String Global) E) (stop : Stop) (file bytes : List ℕ) (line : ℕ) → line_fault bytes ≡ Some (faults.long_name line)
-    → IfOk message (λ made. string_bytes made ≡ said.long_name file line)
-    → MatchResult message (λ made. stop ≡ stops.Refused made) (λ _. stop ≡ stops.NoMemory) → Refuses stop (due_of_verdict file bytes (verdict bytes))
-refuses_long_name message stop file bytes line is =
-    refuses message stop (due_of_verdict file bytes (verdict bytes)) (said.long_name file line)
-    (ap (λ f. due_of_verdict file bytes (verdict_of f (first_broken (logical_lines bytes)) (first_overlap_of (flat_list bytes)))) is)
+-- too many lines or a long name come first
+pub file_fault_due : (file bytes : List ℕ) (found : FileFault) (fault : Fault) → length bytes ≤ limit → line_fault bytes ≡ Some found → first_of (Some found) (first_fault width (bytes ∷ [])) ≡ Some fault
+    → IsDueOf file bytes (refused (said.broken file fault))
+file_fault_due file bytes found fault small is first = broken_due file bytes fault small (ap (λ f. first_of f (first_fault width (bytes ∷ []))) is ∙ first)
+
+-- then the rules of lines
+pub line_due : (file bytes : List ℕ) (fault : Fault) → length bytes ≤ limit → line_fault bytes ≡ None → first_fault width (bytes ∷ []) ≡ Some fault → IsDueOf file bytes (refused (said.broken file fault))
+line_due file bytes fault small none first = broken_due file bytes fault small (ap (λ f. first_of f (first_fault width (bytes ∷ []))) none ∙ first)
+
+-- what is refused is what is due
+pub refuses_this : (stop : Stop) (IsDue : Due → Type 0) (what : Due) → IsDue what → Refuses stop (λ due. due ≡ what) → Refuses stop IsDue
+refuses_this stops.Usage IsDue what due is = is
+refuses_this (stops.ReadFault message) IsDue what due is = is
+refuses_this (stops.Refused message) IsDue what due is = subst IsDue (sym is) due
+refuses_this stops.NoMemory IsDue what due is = tt
+
+-- a message says it, if there is memory
+pub refuses : {E : Type 0} (message : Result (Vec ℕ Global) E) (stop : Stop) (IsDue : Due → Type 0) (text : List ℕ) → IsDue (refused text) → IfOk message (λ made. made.items ≡ text)
+    → MatchResult message (λ made. stop ≡ stops.Refused made) (λ _. stop ≡ stops.NoMemory) → Refuses stop IsDue
+refuses (Ok made) stop IsDue text due made_is stop_is =
+    let P : Stop → Type 0 = λ s. Refuses s IsDue in
+    subst P (sym stop_is) (subst (λ t. IsDue (refused t)) (sym made_is) due)
+refuses (Err e) stop IsDue text due made_is stop_is = let P : Stop → Type 0 = λ s. Refuses s IsDue in subst P (sym stop_is) tt
+
+-- the first fault of one file is in that file
+fault_of_line : (file line : ℕ) (broken : List Broken) (later : Option Fault) (fault : Fault) → (later ≡ Some fault → fault.file ≡ file) → fault_or file line broken later ≡ Some fault → fault.file ≡ file
+fault_of_line file line [] later fault rest is = rest is
+fault_of_line file line (b ∷ bs) later fault rest is = let same : record { file = file; line = line; broken = b } ≡ fault = cc in sym (ap (λ (f : Fault). f.file) same)
+
+fault_of_lines : (file : ℕ) (scope : Scope) (lines : List Line) (fault : Fault) → fault_in_lines width file scope lines ≡ Some fault → fault.file ≡ file
+fault_of_lines file scope [] fault is = absurd (cc)
+fault_of_lines file scope (l ∷ ls) fault is =
+    fault_of_line file l.line (faults_of_line width scope l) (fault_in_lines width file (after_line scope l) ls) fault (fault_of_lines file (after_line scope l) ls fault) is
+
+now_or_never : (now : Option Fault) (fault : Fault) → or_later now None ≡ Some fault → now ≡ Some fault
+now_or_never None fault is = is
+now_or_never (Some f) fault is = is
+
+pub fault_of_file : (bytes : List ℕ) (fault : Fault) → first_fault width (bytes ∷ []) ≡ Some fault → fault.file ≡ 0
+fault_of_file bytes fault is = fault_of_lines 0 (scope_of 0) (logical_lines bytes) fault (now_or_never (fault_in_lines width 0 (scope_of 0) (logical_lines bytes)) fault is)
+
+-- what is reported of one file is due
+pub reported_due : (file : List ℕ) (files : List Source) (source : Source) (bytes : List ℕ) (fault : Reported) → files ≡ source ∷ [] → bytes ≡ source.bytes → length source.bytes ≤ limit → line_fault source.bytes ≡ None
+    → IsReported (text_of_file files fault.file) fault (first_fault width (texts_of files)) → IsDueOf file source.bytes (refused (said.broken file (fault_seen bytes fault)))
+reported_due file files source bytes fault one read small none reported =
+    let alone : IsReported (text_of_file (source ∷ []) fault.file) fault (first_fault width (source.bytes ∷ [])) =
+    subst (λ (fs : List Source). IsReported (text_of_file fs fault.file) fault (first_fault width (texts_of fs))) one reported in
+    let first : fault.file ≡ 0 = fault_of_file source.bytes (fault_seen (text_of_file (source ∷ []) fault.file) fault) (sym alone.same) in
+    let here : fault_seen (text_of_file (source ∷ []) fault.file) fault ≡ fault_seen source.bytes fault = ap (λ n. fault_seen (text_of_file (source ∷ []) n) fault) first in
+    subst (λ b. IsDueOf file source.bytes (refused (said.broken file (fault_seen b fault)))) (sym read)
+    (line_due file source.bytes (fault_seen source.bytes fault) small none (sym alone.same ∙ ap Some here))
+
+-- where nothing is broken no rule of lines is
+pub unbroken_lines : (bytes : List ℕ) → first_broken bytes ≡ None → first_fault width (bytes ∷ []) ≡ None
+unbroken_lines bytes h = by_fault (line_fault bytes) h
+  where
+    by_fault : (found : Option FileFault) → first_of found (first_fault width (bytes ∷ [])) ≡ None → first_fault width (bytes ∷ []) ≡ None
+    by_fault None h = h
+    by_fault (Some faults.too_many_lines) h = absurd (cc)
+    by_fault (Some (faults.long_name line)) h = absurd (cc)
+
+-- a message names the members of the first knot, if there is memory
+pub refuses_knot : {E : Type 0} (message : Result (Vec ℕ Global) E) (stop : Stop) (file : List ℕ) (kept : List Kept) (shown : List (ℕ × ℕ)) → ShowsFirstKnot (map pattern_seen kept) shown
+    → ((members : List ℕ) → All (λ i. i < length kept) members → shown ≡ map (file_and_line (map pattern_seen kept)) members → IfOk message (λ made. made.items ≡ said.overlapping file (map (pattern_at (map pattern_seen kept)) members)))
+    → MatchResult message (λ made. stop ≡ stops.Refused made) (λ _. stop ≡ stops.NoMemory) → RefusesKnot stop file (map pattern_seen kept)
+refuses_knot {E} message stop file kept shown knot made = by_message message (made knot.members inside knot.each)
+  where
+    inside : All (λ i. i < length kept) knot.members
+    inside = λ k d h. subst (λ n. get_or knot.members k d < n) (length-map kept pattern_seen) (knot.first.knot.inside (get_or knot.members k d) (Contains-get_or knot.members k d h))
+
+    by_message : (m : Result (Vec ℕ Global) E) → IfOk m (λ made. made.items ≡ said.overlapping file (map (pattern_at (map pattern_seen kept)) knot.members))
+        → MatchResult m (λ made. stop ≡ stops.Refused made) (λ _. stop ≡ stops.NoMemory) → RefusesKnot stop file (map pattern_seen kept)
+    by_message (Ok made) made_is stop_is =
+        let P : Stop → Type 0 = λ s. RefusesKnot s file (map pattern_seen kept) in
+        subst P (sym stop_is) (record {
+          members = map (pattern_at (map pattern_seen kept)) knot.members;
+          first = record { places = knot.members; first = knot.first; each = refl };
+          shown = made_is;
+        })
+    by_message (Err e) made_is stop_is = let P : Stop → Type 0 = λ s. RefusesKnot s file (map pattern_seen kept) in subst P (sym stop_is) tt
+
+-- a knot of the file's patterns is due
+pub knot_due : (A : Type 0) (file bytes : List ℕ) (ps : List Pattern) (stop : Stop) → length bytes ≤ limit → first_broken bytes ≡ None → ps ≡ patterns_of bytes → RefusesKnot stop file ps
+    → AnswersDue {A = A} ⊥ (Err stop) (IsDueOf file bytes)
+knot_due A file bytes ps stops.Usage small unbroken are knot = absurd knot
+knot_due A file bytes ps (stops.ReadFault message) small unbroken are knot = absurd knot
+knot_due A file bytes ps (stops.Refused message) small unbroken are knot = record {
+  verdict = overlapping knot.members;
+  stands = (record { small = small; first = unbroken }, record { places = knot.first.places; first = subst (λ (qs : List Pattern). IsFirstKnot qs knot.first.places) are knot.first.first; each = knot.first.each ∙ ap (λ (qs : List Pattern). map (pattern_at qs) knot.first.places) are });
+  due = ap refused (sym knot.shown);
+}
+knot_due A file bytes ps stops.NoMemory small unbroken are knot = tt
+
+-- what a `?` hands on
+pub handed_on : {A : Type 0} (P : Result (Vec ℕ A) Stop → Type 0) (result : Result (Vec ℕ A) Stop) (stop : Stop) → IsErrAnd result (λ handed. handed ≡ stop) → P (Err stop) → P result
+handed_on P (Ok text) stop is h = absurd is
+handed_on {A} P (Err handed) stop is h = let Q : Stop → Type 0 = λ s. P (Err s) in subst Q (sym is) h

@@ -8,7 +8,7 @@ use Rattle.std.proofs.lemmas.List.Kept.{AllPairs-cons, AllPairs-filter}
 use Rattle.dt_values.specs.Names.{IsName}
 use Rattle.c_subset.specs.Programs.{Name, Stmts}
 use Rattle.c_subset.specs.Keeps.{PatternNamed, ExtractionNamed, StmtsNamed, StmtsBelow, AllDiffer, KeepsRules}
-use Rattle.dt_tool.specs.Patterns.{Pattern}
+use Rattle.dt_forms.specs.Patterns.{Pattern}
 use Rattle.dt_tool.specs.Sound.{IsSound, AreSound}
 use Rattle.dt_tool.specs.Layout.{inferred_set, inferred_extraction, first_names, names_of, declared_pattern, test_then, chain, chain_program}
 use Rattle.dt_tool.proofs.Law.{all_named}

@@ -3,7 +3,7 @@ use Rattle.std.proofs.Common.{◌≡◌, ℕ, ◌+◌, ◌<◌, List, [], ◌∷
 use Rattle.std.proofs.lemmas.List.{map_more, take_more, flat_map_more}
 use Rattle.std.specs.Prelude.{flat_map}
 use Rattle.c_subset.specs.Pieces.{Piece, piece_text, pieces_text}
-use Rattle.dt_tool.specs.Patterns.{Pattern}
+use Rattle.dt_forms.specs.Patterns.{Pattern}
 use Rattle.dt_tool.specs.Layout.{head_line, set_lines, prototype_lines, names_of, extract_lines, decoder_head_lines, union_lines, pattern_lines, end_lines, if_line, body_lines, close_line, test_lines, where_patterns, pieces, layout}
 
 pub texts-append : (ps qs : List Piece) → pieces_text (ps ++ qs) ≡ pieces_text ps ++ pieces_text qs
@@ -22,6 +22,10 @@ both old mid new ps qs e f = f ∙ ap (λ l. l ++ pieces_text qs) e ∙ append_a
 pub nothing : (old : List ℕ) → old ++ pieces_text [] ≡ old
 unfolding pieces_text
 nothing old = append-nil old
+
+-- behind nothing
+pub from_nothing : (start new : List ℕ) (ps : List Piece) → start ≡ [] → new ≡ start ++ pieces_text ps → new ≡ pieces_text ps
+from_nothing start new ps empty e = e ∙ ap (λ l. l ++ pieces_text ps) empty
 
 -- one more of them
 pub one_more : {X : Type 0} (view : X → Piece) (old mid new : List ℕ) (xs : List X) (i : ℕ) (x : X) → i < length xs → x ≡ get_or xs i x → mid ≡ old ++ pieces_text (map view (take i xs)) → new ≡ mid ++ piece_text (view x) → new ≡ old ++ pieces_text (map view (take (i + 1) xs))
@@ -55,7 +59,7 @@ lines_more lines old mid new xs i x h is e f =
     ∙ ap (λ y. old ++ pieces_text (flat_map lines (take i xs ++ y ∷ []))) is
     ∙ ap (λ l. old ++ pieces_text (flat_map lines l)) (sym (take_more xs i x h))
 
-flat_map-map : {X Y Z : Type 0} (f : Y → List Z) (view : X → Y) (xs : List X) → flat_map f (map view xs) ≡ flat_map (λ x. f (view x)) xs
+pub flat_map-map : {X Y Z : Type 0} (f : Y → List Z) (view : X → Y) (xs : List X) → flat_map f (map view xs) ≡ flat_map (λ x. f (view x)) xs
 flat_map-map f view [] = refl
 flat_map-map f view (x ∷ xs) = ap (λ l. f (view x) ++ l) (flat_map-map f view xs)
 

@@ -1,6 +1,6 @@
 -- A run of a program against the trial of a list of patterns.
 use Rattle.std.specs.Prelude.{◌≡◌, bit_and, Bool, true, false, List, All}
-use Rattle.dt_tool.specs.Patterns.{Pattern}
+use Rattle.dt_forms.specs.Patterns.{Pattern}
 use Rattle.dt_tool.specs.Trial.{Trial}
 use Rattle.dt_tool.specs.Run.{Ended, ended_true, ended_false, Run}
 

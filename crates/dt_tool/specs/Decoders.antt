@@ -2,7 +2,7 @@
 use Rattle.std.specs.Prelude.{◌≡◌, ℕ, Bool, List, [], Option}
 use Rattle.c_subset.specs.Spells.{Spells}
 use Rattle.dt_io.specs.Bytes.{appended}
-use Rattle.dt_tool.specs.Patterns.{Pattern}
+use Rattle.dt_forms.specs.Patterns.{Pattern}
 use Rattle.dt_tool.specs.Layout.{chain_program}
 use Rattle.dt_tool.specs.Hosts.{script}
 use Rattle.dt_tool.specs.Trial.{trial_of}

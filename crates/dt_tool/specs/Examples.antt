@@ -1,7 +1,7 @@
 -- Programs whose runs are written out.
 use Rattle.std.specs.Prelude.{ℕ, Bool, List, [], ◌∷◌, codes}
 use Rattle.c_subset.specs.Programs.{Name, Stmts, extract, call, done, then, Program}
-use Rattle.dt_tool.specs.Patterns.{Pattern}
+use Rattle.dt_forms.specs.Patterns.{Pattern}
 use Rattle.dt_tool.specs.Layout.{chain_program, inferred_set, inferred_format}
 use Rattle.dt_tool.specs.Hosts.{Call, script}
 use Rattle.dt_tool.specs.Run.{Ended, Run, run_of}

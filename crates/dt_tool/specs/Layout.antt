@@ -5,7 +5,7 @@ use Rattle.dt_values.specs.declared.width.Width.TheVariants.{W32}
 use Rattle.c_subset.specs.Programs as c
 use Rattle.c_subset.specs.Programs.{Name, Stmts, done, then, on_mask, extract, call, Program, hex}
 use Rattle.c_subset.specs.Pieces.{Piece, text, name, spaces, pieces_text}
-use Rattle.dt_tool.specs.Patterns.{Pattern}
+use Rattle.dt_forms.specs.Patterns.{Pattern}
 
 -- the names that no option changes yet
 abbrev pub decoder : Name

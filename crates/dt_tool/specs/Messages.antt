@@ -1,6 +1,12 @@
--- The texts for standard error (docs/COMMANDS.md).
+-- The texts for standard error, in pieces (docs/COMMANDS.md).
 use Rattle.std.specs.Prelude.{ℕ, List, [], ◌∷◌, ◌++◌, codes, decimal, flat_map}
-use Rattle.dt_tool.specs.Patterns.{Pattern}
+use Rattle.c_subset.specs.Pieces.{Piece, text, name, pieces_text}
+use Rattle.c_subset.specs.Programs.{hex}
+use Rattle.dt_fields.specs.declared.rule.Rule.TheVariants as rule
+use Rattle.dt_forms.specs.Patterns.{Pattern}
+use Rattle.dt_forms.specs.Rules.{Detail, nothing, token, number, mask, Fault}
+use Rattle.dt_tool.specs.RuleTexts.{rule_text}
+use Rattle.dt_tool.specs.Verdicts.{fault_at}
 
 abbrev pub usage : List ℕ
 usage = codes "usage: N1\n"
@@ -12,25 +18,34 @@ abbrev pub no_memory : List ℕ
 no_memory = codes "error: no memory\n"
 
 abbrev pub cannot_read : List ℕ → List ℕ
-cannot_read file = codes "error: cannot read " ++ (file ++ codes "\n")
+cannot_read file = pieces_text (text (codes "error: cannot read ") ∷ text file ∷ text (codes "\n") ∷ [])
 
 abbrev pub too_large : List ℕ → List ℕ
-too_large file = codes "error: K0 file too large: " ++ (file ++ codes "\n")
+too_large file = pieces_text (text (codes "error: K0 file too large: ") ∷ text file ∷ text (codes "\n") ∷ [])
 
-abbrev pub not_built : List ℕ → ℕ → List ℕ
-not_built file line = file ++ (codes ":" ++ (decimal line ++ codes ": error: N2 not built\n"))
+-- what stands behind a rule: nothing, the bytes of a token, a number in decimal, or the bits of a mask in eight hexadecimal digits
+abbrev pub detail_pieces : Detail → List Piece
+detail_pieces nothing = []
+detail_pieces (token bytes) = text (codes ": ") ∷ text bytes ∷ []
+detail_pieces (number n) = text (codes ": ") ∷ name (decimal n) ∷ []
+detail_pieces (mask m) = text (codes ": 0x") ∷ name (hex 8 m) ∷ []
 
-abbrev pub too_many_lines : List ℕ → List ℕ
-too_many_lines file = file ++ codes ":65536: error: K1 too many lines\n"
+-- where a rule is broken, and which, with its text
+abbrev pub place_pieces : List ℕ → List ℕ → Fault → List Piece
+place_pieces kind file fault = text file ∷ text (codes ":") ∷ name (decimal fault.line) ∷ text (codes ": ") ∷ text kind ∷ text (codes ": ") ∷ text (rule_text fault.broken.0) ∷ []
 
-abbrev pub long_name : List ℕ → ℕ → List ℕ
-long_name file line = file ++ (codes ":" ++ (decimal line ++ codes ": error: K2 long name\n"))
+-- a line about a broken rule
+abbrev pub fault_pieces : List ℕ → List ℕ → Fault → List Piece
+fault_pieces kind file fault = place_pieces kind file fault ++ (detail_pieces fault.broken.1 ++ text (codes "\n") ∷ [])
+
+abbrev pub broken : List ℕ → Fault → List ℕ
+broken file fault = pieces_text (fault_pieces (codes "error") file fault)
 
 -- a line about a pattern that overlaps others
-abbrev pub overlap_line : List ℕ → List ℕ → Pattern → List ℕ
-overlap_line file kind p = file ++ (codes ":" ++ (decimal p.line ++ (codes ": " ++ (kind ++ (codes ": H2 overlapping: " ++ (p.name ++ codes "\n"))))))
+abbrev pub overlap_pieces : List ℕ → List ℕ → Pattern → List Piece
+overlap_pieces kind file p = fault_pieces kind file (fault_at p.line rule.H2 (token p.name))
 
 -- the first of them, and a note for each other
 abbrev pub overlapping : List ℕ → List Pattern → List ℕ
 overlapping file [] = []
-overlapping file (p ∷ ps) = overlap_line file (codes "error") p ++ flat_map (overlap_line file (codes "note")) ps
+overlapping file (p ∷ ps) = pieces_text (overlap_pieces (codes "error") file p ++ flat_map (overlap_pieces (codes "note") file) ps)

@@ -2,8 +2,8 @@
 use Rattle.std.specs.Prelude.{decimal}
 use Rattle.c_subset.specs.Pieces.{Piece, text, name, spaces}
 use Rattle.c_subset.specs.Programs.{hex}
-use Rattle.dt_tool.specs.declared.text.Part.{Part}
-use Rattle.dt_tool.specs.declared.text.Part.TheVariants as part
+use Rattle.dt_tool.specs.declared.parts.Part.{Part}
+use Rattle.dt_tool.specs.declared.parts.Part.TheVariants as part
 
 abbrev pub part_seen : Part → Piece
 part_seen (part.Text t) = text t.now

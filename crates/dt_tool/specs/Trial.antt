@@ -1,6 +1,6 @@
 -- What a list of patterns does at a word: the patterns are tried one after another.
 use Rattle.std.specs.Prelude.{ℕ, Bool, true, false, List, [], ◌∷◌}
-use Rattle.dt_tool.specs.Patterns.{Pattern, matches}
+use Rattle.dt_forms.specs.Patterns.{Pattern, matches}
 use Rattle.dt_tool.specs.Hosts.{Call, Host}
 
 -- the calls of a trial, in order, its result and the host's last state

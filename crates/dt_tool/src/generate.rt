@@ -1,29 +1,32 @@
 //! From the command words to the C text, with all that stops it on the way.
 
-ghost use Rattle.std.specs.Prelude.{◌≡◌, ◌≤◌, ◌↔◌, Err, None, [], length, map, vec_len, All, OnOk, IfOk, IfErr, IfSome, IsSomeAnd, MatchResult};
+ghost use Rattle.std.specs.Prelude.{◌≡◌, ◌≤◌, ◌↔◌, false, Err, None, map, vec_len, IfErr, IfOk, IfSome, IsSomeAnd, MatchResult, OnOk};
 ghost use Rattle.dt_io.specs.Causes.{Rose};
 ghost use Rattle.dt_io.specs.Files.{Held};
-ghost use Rattle.dt_tool.specs.Words.{file_named, texts};
-ghost use Rattle.dt_lines.specs.Lines.{logical_lines};
 ghost use Rattle.dt_lines.specs.Faults.{line_fault};
-ghost use Rattle.dt_lines.specs.Spans.{AreSpans, line_seen};
-ghost use Rattle.dt_tool.specs.Patterns.{first_broken, flat_list};
-ghost use Rattle.dt_tool.specs.Knots.{IsWhole};
-ghost use Rattle.dt_tool.specs.Overlaps.{first_overlap_of};
-ghost use Rattle.dt_tool.specs.View.{pattern_seen};
+ghost use Rattle.dt_forms.specs.Options.{IsOptionName};
+ghost use Rattle.dt_forms.specs.Rules.{nothing};
+ghost use Rattle.dt_forms.specs.Sound.{IsSound};
+ghost use Rattle.dt_forms.specs.Sources.{IsSourceAt};
+ghost use Rattle.dt_forms.specs.Trees.{entries_of, items_of};
+ghost use Rattle.dt_forms.specs.View.{pattern_seen};
+ghost use Rattle.dt_tree.specs.Knots.{IsParted};
 ghost use Rattle.dt_tool.specs.Decoders.{IsDecoder};
-ghost use Rattle.dt_tool.specs.Due.{due, due_of_verdict, input, verdict};
-ghost use Rattle.dt_tool.specs.Stops.{AnswersDue, IsForSome, Refuses, RefusesMembers, SaysUnread, StopsLoad};
+ghost use Rattle.dt_tool.specs.Due.{IsDue, IsDueOf, input, refused};
+ghost use Rattle.dt_tool.specs.Messages as said;
+ghost use Rattle.dt_tool.specs.Stops.{AnswersDue, IsForSome, Refuses, RefusesKnot, SaysUnread, StopsLoad};
+ghost use Rattle.dt_tool.specs.Verdicts.{fault_at, first_broken, patterns_of};
+ghost use Rattle.dt_tool.specs.Words.{file_named, texts};
 
 use crate::messages;
-use crate::overlap::first_overlap;
-use crate::pattern::Pattern;
-use crate::reader::{PatternFault, read_patterns};
 use crate::text::text;
 use crate::words::file_named;
+use dt_fields::{Detail, Rule};
+use dt_forms::{Fault, Model, ModelFault, Options, Source, read_model};
 use dt_io::{Folder, LoadFault, read_all};
-use dt_lines::scan::{LARGEST_FILE, logical};
-use dt_lines::{LineFault, Logical};
+use dt_lines::{LARGEST_FILE, LineFault};
+use dt_tree::{Tree, TreeFault};
+use dt_values::{Name, Width};
 use std::alloc::{AllocError, Global};
 
 /// Why no text is written, with what is said of it.
@@ -32,9 +35,9 @@ pub enum Stop {
     /// The words are no command.
     Usage,
     /// The file isn't there, or a read of it failed.
-    ReadFault(String),
+    ReadFault(Vec<u8>),
     /// The file breaks a rule.
-    Refused(String),
+    Refused(Vec<u8>),
     /// Memory is wanting.
     NoMemory,
 }
@@ -42,9 +45,9 @@ pub enum Stop {
 /// The C text of the file that the words name.
 pub fn generate<D: Folder>(alloc: Global, words: &[String], folder: &mut D) -> Result<Vec<u8>, Stop>
     ensures usage { (result ≡ Err Stop.Usage) ↔ (file_named (texts words.now) ≡ None) }
-    ensures answer { IfSome (D.files folder.old) (λ files. AnswersDue (Rose (D.read_faults folder.old) (D.read_faults folder.new)) result (due (texts words.now) files)) }
+    ensures answer { IfSome (D.files folder.old) (λ files. AnswersDue (Rose (D.read_faults folder.old) (D.read_faults folder.new)) result (IsDue (texts words.now) files)) }
     ensures some { IsForSome result (texts words.now) }
-    ensures decoder { IfOk result (λ text. IfSome (D.files folder.old) (λ files. IsSomeAnd (input (texts words.now) files) (λ bytes. IsDecoder text.items (flat_list bytes)))) }
+    ensures decoder { IfOk result (λ text. IfSome (D.files folder.old) (λ files. IsSomeAnd (input (texts words.now) files) (λ bytes. IsDecoder text.items (patterns_of bytes)))) }
     ensures usage_reads_nothing { result ≡ Err Stop.Usage → folder.new ≡ folder.old }
     ensures unread { IfErr result (λ stop. IfSome (file_named (texts words.now)) (λ file. SaysUnread file (Rose (D.misses folder.old) (D.misses folder.new)) (Rose (D.read_faults folder.old) (D.read_faults folder.new)) stop)) }
     ensures files { D.files folder.new ≡ D.files folder.old }
@@ -55,7 +58,7 @@ pub fn generate<D: Folder>(alloc: Global, words: &[String], folder: &mut D) -> R
         return Err(Stop::Usage);
     };
     let bytes = load(alloc, folder, file)?;
-    generate_from(alloc, file, bytes.as_slice())
+    generate_from(alloc, file, bytes)
 }
 
 // The bytes of the file.
@@ -78,79 +81,110 @@ fn load<D: Folder>(alloc: Global, folder: &mut D, file: &str) -> Result<Vec<u8>,
 }
 
 // The C text of a file of these bytes.
-fn generate_from(alloc: Global, file: &str, bytes: &[u8]) -> Result<Vec<u8>, Stop>
-    requires { length bytes.now ≤ LARGEST_FILE }
-    ensures due { AnswersDue ⊥ result (due_of_verdict file.now bytes.now (verdict bytes.now)) }
-    ensures decoder { IfOk result (λ text. IsDecoder text.items (flat_list bytes.now)) }
+fn generate_from(alloc: Global, file: &str, bytes: Vec<u8>) -> Result<Vec<u8>, Stop>
+    requires { vec_len bytes ≤ LARGEST_FILE }
+    ensures due { AnswersDue ⊥ result (IsDueOf file.now bytes.items) }
+    ensures decoder { IfOk result (λ text. IsDecoder text.items (patterns_of bytes.items)) }
 {
-    let patterns = patterns_in(alloc, file, bytes)?;
-    refuse_overlap(alloc, file, patterns.as_slice())?;
-    match text(alloc, patterns.as_slice()) {
+    let source = source_of(alloc, file, bytes)?;
+    let model = model_of(alloc, file, source)?;
+    refuse_overlaps(alloc, file, &model)?;
+    match text(alloc, model.patterns.items()) {
         Ok(text) => Ok(text),
         Err(_) => Err(Stop::NoMemory),
     }
 }
 
-// The logical lines of a file of these bytes.
-fn lines_in(alloc: Global, file: &str, bytes: &[u8]) -> Result<Vec<Logical>, Stop>
-    requires { length bytes.now ≤ LARGEST_FILE }
-    ensures lines { IfOk result (λ lines. map (line_seen bytes.now) lines.items ≡ logical_lines bytes.now) }
-    ensures spans { IfOk result (λ lines. All (λ l. AreSpans (length bytes.now) l.tokens) lines.items) }
-    ensures sound { OnOk result (line_fault bytes.now ≡ None) }
-    ensures stop { IfErr result (λ stop. Refuses stop (due_of_verdict file.now bytes.now (verdict bytes.now))) }
+// The file of these bytes with its lines.
+fn source_of(alloc: Global, file: &str, bytes: Vec<u8>) -> Result<Source, Stop>
+    requires { vec_len bytes ≤ LARGEST_FILE }
+    ensures source { IfOk result (IsSourceAt 0) }
+    ensures bytes { IfOk result (λ source. source.bytes ≡ bytes.items) }
+    ensures sound { OnOk result (line_fault bytes.items ≡ None) }
+    ensures stop { IfErr result (λ stop. Refuses stop (IsDueOf file.now bytes.items)) }
 {
-    match logical(alloc, 0, bytes) {
-        Ok(lines) => Ok(lines),
-        Err(LineFault::TooManyLines) => {
-            return Err(refused(messages::too_many_lines(alloc, file)));
-        }
-        Err(LineFault::LongName(line)) => {
-            return Err(refused(messages::long_name(alloc, file, line)));
-        }
-        Err(LineFault::NoMemory) => {
-            return Err(Stop::NoMemory);
-        }
+    match Source::read(alloc, 0, bytes) {
+        Ok(source) => Ok(source),
+        Err(LineFault::TooManyLines) => Err(refused_at(alloc, file, 65_536, Rule::K1)),
+        Err(LineFault::LongName(line)) => Err(refused_at(alloc, file, line, Rule::K2)),
+        Err(LineFault::NoMemory) => Err(Stop::NoMemory),
     }
 }
 
-// The patterns of a file of these bytes.
-fn patterns_in(alloc: Global, file: &str, bytes: &[u8]) -> Result<Vec<Pattern>, Stop>
-    requires { length bytes.now ≤ LARGEST_FILE }
-    ensures patterns { IfOk result (λ patterns. map pattern_seen patterns.items ≡ flat_list bytes.now) }
-    ensures sound { OnOk result (line_fault bytes.now ≡ None) }
-    ensures kept { OnOk result (first_broken (logical_lines bytes.now) ≡ None) }
-    ensures stop { IfErr result (λ stop. Refuses stop (due_of_verdict file.now bytes.now (verdict bytes.now))) }
+// The model of the file.
+fn model_of(alloc: Global, file: &str, source: Source) -> Result<Model, Stop>
+    requires source { IsSourceAt 0 source }
+    requires sound { line_fault source.bytes ≡ None }
+    ensures patterns { IfOk result (λ model. map pattern_seen model.patterns ≡ patterns_of source.bytes) }
+    ensures entries { IfOk result (λ model. items_of model.entries ≡ entries_of (map pattern_seen model.patterns)) }
+    ensures sound { IfOk result IsSound }
+    ensures kept { OnOk result (first_broken source.bytes ≡ None) }
+    ensures stop { IfErr result (λ stop. Refuses stop (IsDueOf file.now source.bytes)) }
 {
-    let lines = lines_in(alloc, file, bytes)?;
-    match read_patterns(alloc, bytes, lines.as_slice()) {
-        Ok(patterns) => Ok(patterns),
-        Err(PatternFault::NotBuilt(line)) => Err(refused(messages::not_built(alloc, file, line))),
-        Err(PatternFault::NoMemory) => Err(Stop::NoMemory),
+    let files = [source];
+    match read_model(alloc, &options(), files.as_slice()) {
+        Ok(model) => Ok(model),
+        Err(ModelFault::Broken(fault)) => Err(refused(messages::broken(
+            alloc,
+            file,
+            files[0].bytes.items(),
+            &fault,
+        ))),
+        Err(ModelFault::NoMemory) => Err(Stop::NoMemory),
+    }
+}
+
+// What no word changes yet.
+fn options() -> Options
+    ensures width { result.width ≡ Width.W32 }
+    ensures fixed { result.variable ≡ false }
+    ensures decode { IsOptionName result.decode }
+    ensures translate { IsOptionName result.translate }
+{
+    Options {
+        width: Width::W32,
+        variable: false,
+        decode: Name::from_bytes(b"decode").unwrap(),
+        decode_static: true,
+        translate: Name::from_bytes(b"trans").unwrap(),
+        translate_static: true,
     }
 }
 
 // Stops where patterns overlap.
-fn refuse_overlap(alloc: Global, file: &str, patterns: &[Pattern]) -> Result<(), Stop>
-    requires { All IsWhole (map pattern_seen patterns.now) }
-    ensures parted { OnOk result (first_overlap_of (map pattern_seen patterns.now) ≡ []) }
-    ensures stop { IfErr result (λ stop. RefusesMembers stop file.now (first_overlap_of (map pattern_seen patterns.now))) }
+fn refuse_overlaps(alloc: Global, file: &str, model: &Model) -> Result<(), Stop>
+    requires flat { items_of model.now.entries ≡ entries_of (map pattern_seen model.now.patterns) }
+    requires sound { IsSound model.now }
+    ensures parted { OnOk result (IsParted (map pattern_seen model.now.patterns)) }
+    ensures stop { IfErr result (λ stop. RefusesKnot stop file.now (map pattern_seen model.now.patterns)) }
 {
-    let Ok(found) = first_overlap(alloc, patterns) else {
-        return Err(Stop::NoMemory);
-    };
-    match found {
-        None => Ok(()),
-        Some(places) => Err(refused(messages::overlapping(
+    match Tree::build(alloc, model) {
+        Ok(_) => Ok(()),
+        Err(TreeFault::Knot(places)) => Err(refused(messages::overlapping(
             alloc,
             file,
-            patterns,
-            places.as_slice(),
+            model.patterns.items(),
+            places.items(),
         ))),
+        Err(TreeFault::NoMemory) => Err(Stop::NoMemory),
     }
 }
 
+// A refusal of a whole line.
+fn refused_at(alloc: Global, file: &str, line: u32, rule: Rule) -> Stop
+    ensures { Refuses result (λ due. due ≡ refused (said.broken file.now (fault_at line rule nothing))) }
+{
+    let fault = Fault {
+        file: 0,
+        line,
+        rule,
+        detail: Detail::None,
+    };
+    refused(messages::broken(alloc, file, &[], &fault))
+}
+
 // A refusal, if there is memory for its message.
-fn refused(message: Result<String, AllocError>) -> Stop
+fn refused(message: Result<Vec<u8>, AllocError>) -> Stop
     ensures { MatchResult message (λ text. result ≡ Stop.Refused text) (λ _. result ≡ Stop.NoMemory) }
 {
     match message {
@@ -160,7 +194,7 @@ fn refused(message: Result<String, AllocError>) -> Stop
 }
 
 // A file that isn't read, if there is memory for its message.
-fn unread(message: Result<String, AllocError>) -> Stop
+fn unread(message: Result<Vec<u8>, AllocError>) -> Stop
     ensures { MatchResult message (λ text. result ≡ Stop.ReadFault text) (λ _. result ≡ Stop.NoMemory) }
 {
     match message {

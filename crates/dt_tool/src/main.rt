@@ -4,9 +4,8 @@
 pub mod generate;
 pub mod laws;
 pub mod messages;
-pub mod overlap;
-pub mod pattern;
-pub mod reader;
+pub mod parts;
+pub mod rule_texts;
 pub mod status;
 #[cfg(test)]
 mod tests;
@@ -52,6 +51,6 @@ fn main(rt: HostRuntime) -> ExitCode {
 }
 
 fn no_memory<E: Sink>(err: &mut E) -> ExitCode {
-    let _ = write_all(err, messages::NO_MEMORY.as_bytes());
+    let _ = write_all(err, messages::NO_MEMORY);
     ExitCode::from(Status::of(Outcome::NoMemory).number)
 }

@@ -1,104 +1,188 @@
-//! The texts for standard error.
+//! The texts for standard error, made before they are written. They are bytes, as a refused token may be any.
 
-ghost use Rattle.std.specs.Prelude.{◌≡◌, ◌<◌, ◌++◌, length, map, flat_map, codes, All, IfOk, OnOk};
-ghost use Rattle.std.specs.String.{string_bytes};
-ghost use Rattle.dt_tool.specs.Knots.{pattern_at};
+ghost use Rattle.std.specs.Prelude.{◌≡◌, ◌<◌, ◌++◌, ℕ, List, length, map, flat_map, codes, All, AllPairs, IfOk, OnOk};
+ghost use Rattle.c_subset.specs.Pieces.{pieces_text};
+ghost use Rattle.dt_forms.specs.Sound.{IsBefore};
+ghost use Rattle.dt_forms.specs.View.{IsDetailWithin, detail_seen, fault_seen, pattern_seen};
+ghost use Rattle.dt_tree.specs.Knots.{pattern_at};
+ghost use Rattle.dt_tree.specs.Refusals.{file_and_line};
 ghost use Rattle.dt_tool.specs.Messages as said;
-ghost use Rattle.dt_tool.specs.View.{pattern_seen};
 
-use crate::pattern::Pattern;
+use crate::parts::{Part, write_parts};
+use crate::rule_texts::rule_text;
+use dt_fields::{Detail, Rule};
+use dt_forms::{Fault, Pattern};
+use dt_tree::lookup::pattern_of;
 use std::alloc::{AllocError, Global};
-use std::fmt::Write;
 
 /// What is said where the words aren't understood.
-pub const USAGE: &str = "usage: N1\n";
+pub const USAGE: &[u8] = b"usage: N1\n";
 
 /// What is said where `out` refuses a write.
-pub const CANNOT_WRITE: &str = "error: cannot write\n";
+pub const CANNOT_WRITE: &[u8] = b"error: cannot write\n";
 
 /// What is said where memory is wanting.
-pub const NO_MEMORY: &str = "error: no memory\n";
+pub const NO_MEMORY: &[u8] = b"error: no memory\n";
 
 /// What is said where a file isn't read.
-pub fn cannot_read(alloc: Global, file: &str) -> Result<String, AllocError>
-    ensures { IfOk result (λ text. string_bytes text ≡ said.cannot_read file.now) }
+pub fn cannot_read(alloc: Global, file: &str) -> Result<Vec<u8>, AllocError>
+    ensures { IfOk result (λ text. text.items ≡ said.cannot_read file.now) }
 {
-    format!(in alloc; "error: cannot read {file}\n")
+    let mut text = Vec::new(alloc);
+    write_parts(
+        &mut text,
+        &[
+            Part::Text(b"error: cannot read "),
+            Part::Text(file.as_bytes()),
+            Part::Text(b"\n"),
+        ],
+    )?;
+    Ok(text)
 }
 
 /// What is said of a file over its limit.
-pub fn too_large(alloc: Global, file: &str) -> Result<String, AllocError>
-    ensures { IfOk result (λ text. string_bytes text ≡ said.too_large file.now) }
+pub fn too_large(alloc: Global, file: &str) -> Result<Vec<u8>, AllocError>
+    ensures { IfOk result (λ text. text.items ≡ said.too_large file.now) }
 {
-    format!(in alloc; "error: K0 file too large: {file}\n")
+    let mut text = Vec::new(alloc);
+    write_parts(
+        &mut text,
+        &[
+            Part::Text(b"error: K0 file too large: "),
+            Part::Text(file.as_bytes()),
+            Part::Text(b"\n"),
+        ],
+    )?;
+    Ok(text)
 }
 
-/// What is said of a line that is no pattern.
-pub fn not_built(alloc: Global, file: &str, line: u32) -> Result<String, AllocError>
-    ensures { IfOk result (λ text. string_bytes text ≡ said.not_built file.now line) }
+/// What is said of a rule that a line breaks. A token in its detail is a place in `bytes`, those of the file.
+pub fn broken(alloc: Global, file: &str, bytes: &[u8], fault: &Fault) -> Result<Vec<u8>, AllocError>
+    requires { IsDetailWithin bytes.now fault.now.detail }
+    ensures { IfOk result (λ text. text.items ≡ said.broken file.now (fault_seen bytes.now fault.now)) }
 {
-    format!(in alloc; "{file}:{line}: error: N2 not built\n")
+    let mut text = Vec::new(alloc);
+    write_fault(&mut text, b"error", file, bytes, fault)?;
+    Ok(text)
 }
 
-/// What is said of a file of more than 65,535 lines.
-pub fn too_many_lines(alloc: Global, file: &str) -> Result<String, AllocError>
-    ensures { IfOk result (λ text. string_bytes text ≡ said.too_many_lines file.now) }
-{
-    format!(in alloc; "{file}:65536: error: K1 too many lines\n")
-}
-
-/// What is said of a line with a name of more than 128 bytes.
-pub fn long_name(alloc: Global, file: &str, line: u32) -> Result<String, AllocError>
-    ensures { IfOk result (λ text. string_bytes text ≡ said.long_name file.now line) }
-{
-    format!(in alloc; "{file}:{line}: error: K2 long name\n")
-}
-
-/// What is said of the patterns at these places, which overlap: of the first, and a note for each other.
+/// What is said of the patterns at these files and lines, which overlap: of the first, and a note for each other.
+/// The patterns rise by their files and lines.
 pub fn overlapping(
     alloc: Global,
     file: &str,
     patterns: &[Pattern],
-    places: &[usize],
-) -> Result<String, AllocError>
-    requires { All (λ i. i < length patterns.now) places.now }
-    ensures { IfOk result (λ text. string_bytes text ≡ said.overlapping file.now (map (pattern_at (map pattern_seen patterns.now)) places.now)) }
+    places: &[(u16, u32)],
+) -> Result<Vec<u8>, AllocError>
+    requires rising { AllPairs IsBefore patterns.now }
+    ensures { (members : List ℕ) → All (λ i. i < length patterns.now) members
+        → places.now ≡ map (file_and_line (map pattern_seen patterns.now)) members
+        → IfOk result (λ text. text.items ≡ said.overlapping file.now (map (pattern_at (map pattern_seen patterns.now)) members)) }
 {
-    let mut text = String::new(alloc);
+    let mut text = Vec::new(alloc);
     let Some((first, others)) = places.split_first() else {
         return Ok(text);
     };
-    push_overlap(&mut text, file, "error", &patterns[*first])?;
-    push_notes(&mut text, file, patterns, others)?;
+    write_overlap(&mut text, b"error", file, patterns, *first)?;
+    write_notes(&mut text, file, patterns, others)?;
     Ok(text)
 }
 
-// A note for the pattern at each place.
-fn push_notes(
-    text: &mut String,
+// A note for the pattern at each file and line.
+fn write_notes(
+    text: &mut Vec<u8>,
     file: &str,
     patterns: &[Pattern],
-    places: &[usize],
+    places: &[(u16, u32)],
 ) -> Result<(), AllocError>
-    requires { All (λ i. i < length patterns.now) places.now }
-    ensures { OnOk result (string_bytes text.new ≡ string_bytes text.old ++ flat_map (said.overlap_line file.now (codes "note")) (map (pattern_at (map pattern_seen patterns.now)) places.now)) }
+    requires rising { AllPairs IsBefore patterns.now }
+    ensures { (members : List ℕ) → All (λ i. i < length patterns.now) members
+        → places.now ≡ map (file_and_line (map pattern_seen patterns.now)) members
+        → OnOk result (text.new.items ≡ text.old.items ++ pieces_text (flat_map (λ i. said.overlap_pieces (codes "note") file.now (pattern_at (map pattern_seen patterns.now) i)) members)) }
 {
     for place in places {
-        push_overlap(text, file, "note", &patterns[*place])?;
+        write_overlap(text, b"note", file, patterns, *place)?;
     }
     Ok(())
 }
 
-// A line about a pattern that overlaps others.
-fn push_overlap(
-    text: &mut String,
+// A line about the pattern at a file and line, which overlaps others.
+fn write_overlap(
+    text: &mut Vec<u8>,
+    kind: &[u8],
     file: &str,
-    kind: &str,
-    pattern: &Pattern,
+    patterns: &[Pattern],
+    place: (u16, u32),
 ) -> Result<(), AllocError>
-    ensures { OnOk result (string_bytes text.new ≡ string_bytes text.old ++ said.overlap_line file.now kind.now (pattern_seen pattern.now)) }
+    requires rising { AllPairs IsBefore patterns.now }
+    ensures { (member : ℕ) → member < length patterns.now → place ≡ file_and_line (map pattern_seen patterns.now) member
+        → OnOk result (text.new.items ≡ text.old.items ++ pieces_text (said.overlap_pieces kind.now file.now (pattern_at (map pattern_seen patterns.now) member))) }
 {
-    let line = pattern.line;
-    let name = pattern.name;
-    write!(text, "{file}:{line}: {kind}: H2 overlapping: {name}\n")
+    match pattern_of(patterns, place.0, place.1) {
+        None => Ok(()),
+        Some(pattern) => {
+            let fault = Fault {
+                file: pattern.file,
+                line: pattern.line,
+                rule: Rule::H2,
+                detail: Detail::Named(pattern.name),
+            };
+            write_fault(text, kind, file, &[], &fault)
+        }
+    }
+}
+
+// A line about a broken rule.
+fn write_fault(
+    text: &mut Vec<u8>,
+    kind: &[u8],
+    file: &str,
+    bytes: &[u8],
+    fault: &Fault,
+) -> Result<(), AllocError>
+    requires { IsDetailWithin bytes.now fault.now.detail }
+    ensures { OnOk result (text.new.items ≡ text.old.items ++ pieces_text (said.fault_pieces kind.now file.now (fault_seen bytes.now fault.now))) }
+{
+    write_place(text, kind, file, fault)?;
+    write_detail(text, bytes, &fault.detail)?;
+    write_parts(text, &[Part::Text(b"\n")])?;
+    Ok(())
+}
+
+// Where a rule is broken, and which, with its text.
+fn write_place<'a>(
+    text: &mut Vec<u8>,
+    kind: &'a [u8],
+    file: &'a str,
+    fault: &Fault,
+) -> Result<(), AllocError>
+    ensures { (bytes : List ℕ) → OnOk result (text.new.items ≡ text.old.items ++ pieces_text (said.place_pieces kind.now file.now (fault_seen bytes fault.now))) }
+{
+    write_parts(
+        text,
+        &[
+            Part::Text(file.as_bytes()),
+            Part::Text(b":"),
+            Part::Decimal(fault.line as u64),
+            Part::Text(b": "),
+            Part::Text(kind),
+            Part::Text(b": "),
+            Part::Text(rule_text(fault.rule).as_bytes()),
+        ],
+    )?;
+    Ok(())
+}
+
+// What stands behind a rule.
+fn write_detail(text: &mut Vec<u8>, bytes: &[u8], detail: &Detail) -> Result<(), AllocError>
+    requires { IsDetailWithin bytes.now detail.now }
+    ensures { OnOk result (text.new.items ≡ text.old.items ++ pieces_text (said.detail_pieces (detail_seen bytes.now detail.now))) }
+{
+    match *detail {
+        Detail::None => Ok(()),
+        Detail::Text(span) => write_parts(text, &[Part::Text(b": "), Part::Text(span.text(bytes))]),
+        Detail::Named(name) => write_parts(text, &[Part::Text(b": "), Part::Text(name.bytes())]),
+        Detail::Number(number) => write_parts(text, &[Part::Text(b": "), Part::Decimal(number)]),
+        Detail::Mask(mask) => write_parts(text, &[Part::Text(b": 0x"), Part::Hex(mask)]),
+    }
 }

@@ -106,82 +106,101 @@ fn run(
 /// `gen t` of this text ends with this number, writes and says these bytes, and leaves the file as it was.
 fn check_text(
     rt: &(impl Abort + AllocGlobal),
-    text: &str,
+    text: &[u8],
     number: u8,
-    out: &str,
-    err: &str,
+    out: &[u8],
+    err: &[u8],
 ) -> Result<(), AllocError> {
-    let ran = run(
-        rt.alloc(),
-        &["gen", "t"],
-        text.as_bytes(),
-        16,
-        NOTHING_FAILS,
-    )?;
-    assert_eq!(rt; ran.status.number, number, "for {text}");
-    assert_eq!(rt; ran.out.bytes(), out.as_bytes(), "for {text}");
-    assert_eq!(rt; ran.err.bytes(), err.as_bytes(), "for {text}");
-    assert!(rt; ran.folder.file("t") == Some(text.as_bytes()));
+    let ran = run(rt.alloc(), &["gen", "t"], text, 16, NOTHING_FAILS)?;
+    assert_eq!(rt;
+        ran.status.number,
+        number,
+        "for {:?}",
+        std::str::from_utf8(text)
+    );
+    assert_eq!(rt; ran.out.bytes(), out, "for {:?}", std::str::from_utf8(text));
+    assert_eq!(rt; ran.err.bytes(), err, "for {:?}", std::str::from_utf8(text));
+    assert!(rt; ran.folder.file("t") == Some(text));
     Ok(())
 }
 
 #[test]
-fn files_give_their_text_or_their_first_refusal(rt: HostRuntime) -> Result<(), Fail> {
+fn files_give_their_text(rt: HostRuntime) -> Result<(), Fail> {
     let table = [
-        ("", 0, EMPTY_TEXT, ""),
-        ("\n \t\r\n\x0b\x0c", 0, EMPTY_TEXT, ""),
-        (NOP_LINE, 0, NOP_TEXT, ""),
-        ("nop 00000000000000000000000000000000 \r\n", 0, NOP_TEXT, ""),
-        ("a 000\n", 1, "", "t:1: error: N2 not built\n"),
-        ("a 0.\n", 1, "", "t:1: error: N2 not built\n"),
-        ("# a\n\n   \n#\n", 0, EMPTY_TEXT, ""),
+        ("", EMPTY_TEXT),
+        ("\n \t\r\n\x0b\x0c", EMPTY_TEXT),
+        ("# a\n\n   \n#\n", EMPTY_TEXT),
+        (NOP_LINE, NOP_TEXT),
+        ("nop 00000000000000000000000000000000 \r\n", NOP_TEXT),
+        ("nop 0000000000000000 00000000\t00000000", NOP_TEXT),
         (
             "nop 00000000000000000000000000000000 # no operation\n",
-            0,
             NOP_TEXT,
-            "",
         ),
         (
-            "nop \\ # and then\n 00000000000000000000000000000000\n",
-            0,
+            "nop \\ # and then\n 0000000000000000 \\\n0000000000000000\n",
             NOP_TEXT,
-            "",
-        ),
-        ("\n\n# a\nb\n", 1, "", "t:4: error: N2 not built\n"),
-        ("  # a\n", 1, "", "t:1: error: N2 not built\n"),
-        (
-            " a 00000000000000000000000000000000\n",
-            1,
-            "",
-            "t:1: error: N2 not built\n",
-        ),
-        (
-            "a 0000000000000000000000000000000\n",
-            1,
-            "",
-            "t:1: error: N2 not built\n",
-        ),
-        (
-            "a 000000000000000000000000000000000\n",
-            1,
-            "",
-            "t:1: error: N2 not built\n",
-        ),
-        (
-            "a 00000000000000020000000000000000\n",
-            1,
-            "",
-            "t:1: error: N2 not built\n",
-        ),
-        (
-            "a 00000000000000000000000000000000\na 00000000000000000000000000000000 &x\n",
-            1,
-            "",
-            "t:2: error: N2 not built\n",
         ),
     ];
-    for (text, number, out, err) in table {
-        check_text(&rt, text, number, out, err)?;
+    for (text, out) in table {
+        check_text(&rt, text.as_bytes(), 0, out.as_bytes(), b"")?;
+    }
+    Ok(())
+}
+
+#[test]
+fn files_are_refused_by_the_first_rule_of_their_least_broken_line(
+    rt: HostRuntime,
+) -> Result<(), Fail> {
+    let table: [(&[u8], &[u8]); 18] = [
+        (b"a 000\n", b"t:1: error: G9 wrong bit count: 3\n"),
+        (b"a 0.\n", b"t:1: error: G9 wrong bit count: 2\n"),
+        (b"\n\n# a\nb\n", b"t:4: error: G9 wrong bit count: 0\n"),
+        (
+            b"a 000000000000000 \\\n\n0\n",
+            b"t:1: error: G9 wrong bit count: 15\n",
+        ),
+        (
+            b"p 0 ...............................\n",
+            b"t:1: error: G21 bits left: 0x7fffffff\n",
+        ),
+        (
+            b"p .-01.-01.-01.-01.-01.-01.-01.-01\n",
+            b"t:1: error: G21 bits left: 0x88888888\n",
+        ),
+        (
+            b"a 00000000000000000000000000000000 1\n",
+            b"t:1: error: G8 exceeds width: 1\n",
+        ),
+        (
+            b" p 00000000000000000000000000000000\n",
+            b"t:1: error: L1 indentation: 1\n",
+        ),
+        (b"\t# a\n", b"t:1: error: L1 indentation: 8\n"),
+        (b"*a 0x\n", b"t:1: error: N2 not built\n"),
+        (b"a 0000000000000000 r:5\n", b"t:1: error: N2 not built\n"),
+        (b"%f 0:4\n", b"t:1: error: N2 not built\n"),
+        (b"{\n", b"t:1: error: N2 not built\n"),
+        (b"*a 0\n", b"t:1: error: L7 invalid name: *a\n"),
+        (
+            b"\xff-\x80 00000000000000000000000000000000\n",
+            b"t:1: error: L7 invalid name: \xff-\x80\n",
+        ),
+        (
+            b"a 00000000000000000000000000000000\na 00000000000000000000000000000000 &x\n",
+            b"t:2: error: N2 not built\n",
+        ),
+        (
+            b"a 00000000000000000000000000000000\na 00000000000000000000000000000000\nb 0\nc\n",
+            b"t:3: error: G9 wrong bit count: 1\n",
+        ),
+        (
+            b" *a 0x 00000000000000000000000000000000\n",
+            b"t:1: error: N2 not built\n",
+        ),
+    ];
+    for (text, err) in table {
+        check_text(&rt, text, 1, b"", err)?;
     }
     Ok(())
 }
@@ -206,10 +225,98 @@ t:5: note: H2 overlapping: e
 t:6: note: H2 overlapping: f
 ",
         ),
+        (
+            "a ---------------- 0-1 -------------
+b ---------------- 11- -------------
+c ---------------- -00 -------------
+",
+            "t:1: error: H2 overlapping: a
+t:2: note: H2 overlapping: b
+t:3: note: H2 overlapping: c
+",
+        ),
+        (
+            "fence     ---- ---- ---- ----- 000 ----- 0001111
+fence_i   ---- ---- ---- ----- 001 ----- 0001111
+fence_tso 1000 0011 0011 00000 000 00000 0001111
+",
+            "t:1: error: H2 overlapping: fence
+t:3: note: H2 overlapping: fence_tso
+",
+        ),
+        (
+            "a --------------------------------\nb 00000000000000000000000000000000\n",
+            "t:1: error: H2 overlapping: a\nt:2: note: H2 overlapping: b\n",
+        ),
     ];
     for (text, err) in table {
-        check_text(&rt, text, 1, "", err)?;
+        check_text(&rt, text.as_bytes(), 1, b"", err.as_bytes())?;
     }
+    Ok(())
+}
+
+// The statements of the decoder, behind the union.
+fn check_statements(
+    rt: &(impl Abort + AllocGlobal),
+    text: &str,
+    statements: &str,
+) -> Result<(), Fail> {
+    let ran = run(
+        rt.alloc(),
+        &["gen", "t"],
+        text.as_bytes(),
+        16,
+        NOTHING_FAILS,
+    )?;
+    assert_eq!(rt; ran.status, Status::of(Outcome::Done));
+    let out = std::str::from_utf8(ran.out.bytes())?;
+    let (_, found) = out.split_once("    } u;\n\n").ok_or("a union")?;
+    assert_eq!(rt; found, statements);
+    Ok(())
+}
+
+#[test]
+fn bits_that_are_ignored_are_not_tested(rt: HostRuntime) -> Result<(), Fail> {
+    check_statements(
+        &rt,
+        "a 1-- -----------------------------
+b 00- -----------------------------
+c 01- -----------------------------
+",
+        "    if ((insn & 0x80000000) == 0x80000000) {
+        /* 1:1 */
+        decode_extract_decode_Fmt_0(ctx, &u.f_decode0, insn);
+        if (trans_a(ctx, &u.f_decode0)) return true;
+    }
+    if ((insn & 0xc0000000) == 0x00000000) {
+        /* 1:2 */
+        decode_extract_decode_Fmt_0(ctx, &u.f_decode0, insn);
+        if (trans_b(ctx, &u.f_decode0)) return true;
+    }
+    if ((insn & 0xc0000000) == 0x40000000) {
+        /* 1:3 */
+        decode_extract_decode_Fmt_0(ctx, &u.f_decode0, insn);
+        if (trans_c(ctx, &u.f_decode0)) return true;
+    }
+    return false;
+}
+",
+    )?;
+    Ok(())
+}
+
+#[test]
+fn a_pattern_that_fixes_no_bit_has_its_body_alone(rt: HostRuntime) -> Result<(), Fail> {
+    check_statements(
+        &rt,
+        "p --------------------------------\n",
+        "    /* 1:1 */
+    decode_extract_decode_Fmt_0(ctx, &u.f_decode0, insn);
+    if (trans_p(ctx, &u.f_decode0)) return true;
+    return false;
+}
+",
+    )?;
     Ok(())
 }
 
@@ -263,12 +370,14 @@ fn a_file_has_up_to_65535_lines(rt: HostRuntime) -> Result<(), Fail> {
 
 #[test]
 fn the_example_gives_the_text_of_the_readme(rt: HostRuntime) -> Result<(), Fail> {
-    let text = "ecall     00000000000000000000000001110011
-ebreak    00000000000100000000000001110011
-fence_tso 10000011001100000000000000001111
-pause     00000001000000000000000000001111
+    let text = b"# RV32I instructions whose operands are ignored (RISC-V Unprivileged ISA, RV32I).
+ecall    000000000000 00000 000 00000 1110011
+ebreak   000000000001 00000 000 00000 1110011
+# Fence modes, sets and registers are reserved for finer fences.
+fence    ---- ---- ---- ----- 000 ----- 0001111
+fence_i  ------------   ----- 001 ----- 0001111
 ";
-    let written = "/* Made from pattern files. */
+    let written = b"/* Made from pattern files. */
 
 typedef struct {
 } arg_decode0;
@@ -279,11 +388,11 @@ static bool trans_ecall(DisasContext *ctx, arg_ecall *a);
 typedef arg_decode0 arg_ebreak;
 static bool trans_ebreak(DisasContext *ctx, arg_ebreak *a);
 
-typedef arg_decode0 arg_fence_tso;
-static bool trans_fence_tso(DisasContext *ctx, arg_fence_tso *a);
+typedef arg_decode0 arg_fence;
+static bool trans_fence(DisasContext *ctx, arg_fence *a);
 
-typedef arg_decode0 arg_pause;
-static bool trans_pause(DisasContext *ctx, arg_pause *a);
+typedef arg_decode0 arg_fence_i;
+static bool trans_fence_i(DisasContext *ctx, arg_fence_i *a);
 
 static void decode_extract_decode_Fmt_0(DisasContext *ctx, arg_decode0 *a, uint32_t insn)
 {
@@ -296,37 +405,38 @@ static bool decode(DisasContext *ctx, uint32_t insn)
     } u;
 
     if ((insn & 0xffffffff) == 0x00000073) {
-        /* 1:1 */
+        /* 1:2 */
         decode_extract_decode_Fmt_0(ctx, &u.f_decode0, insn);
         if (trans_ecall(ctx, &u.f_decode0)) return true;
     }
     if ((insn & 0xffffffff) == 0x00100073) {
-        /* 1:2 */
+        /* 1:3 */
         decode_extract_decode_Fmt_0(ctx, &u.f_decode0, insn);
         if (trans_ebreak(ctx, &u.f_decode0)) return true;
     }
-    if ((insn & 0xffffffff) == 0x8330000f) {
-        /* 1:3 */
+    if ((insn & 0x0000707f) == 0x0000000f) {
+        /* 1:5 */
         decode_extract_decode_Fmt_0(ctx, &u.f_decode0, insn);
-        if (trans_fence_tso(ctx, &u.f_decode0)) return true;
+        if (trans_fence(ctx, &u.f_decode0)) return true;
     }
-    if ((insn & 0xffffffff) == 0x0100000f) {
-        /* 1:4 */
+    if ((insn & 0x0000707f) == 0x0000100f) {
+        /* 1:6 */
         decode_extract_decode_Fmt_0(ctx, &u.f_decode0, insn);
-        if (trans_pause(ctx, &u.f_decode0)) return true;
+        if (trans_fence_i(ctx, &u.f_decode0)) return true;
     }
     return false;
 }
 ";
-    check_text(&rt, text, 0, written, "")?;
+    check_text(&rt, text.as_slice(), 0, written.as_slice(), b"")?;
     Ok(())
 }
 
 #[test]
 fn patterns_are_tried_in_the_order_of_the_file(rt: HostRuntime) -> Result<(), Fail> {
-    let text =
-        b"a 00000000000000000000000000000000\nb 00000000000000000000000000000001\n".as_slice();
-    let statements = b"    if ((insn & 0xffffffff) == 0x00000000) {
+    check_statements(
+        &rt,
+        "a 00000000000000000000000000000000\nb 00000000000000000000000000000001\n",
+        "    if ((insn & 0xffffffff) == 0x00000000) {
         /* 1:1 */
         decode_extract_decode_Fmt_0(ctx, &u.f_decode0, insn);
         if (trans_a(ctx, &u.f_decode0)) return true;
@@ -338,11 +448,8 @@ fn patterns_are_tried_in_the_order_of_the_file(rt: HostRuntime) -> Result<(), Fa
     }
     return false;
 }
-"
-        .as_slice();
-    let ran = run(rt.alloc(), &["gen", "t"], text, 16, NOTHING_FAILS)?;
-    assert_eq!(rt; ran.status, Status::of(Outcome::Done));
-    assert!(rt; ran.out.bytes().ends_with(statements));
+",
+    )?;
     Ok(())
 }
 
@@ -459,7 +566,7 @@ fn a_failure_of_standard_error_changes_no_status(rt: HostRuntime) -> Result<(), 
     };
     let ran = run(rt.alloc(), &["gen", "t"], b"a\n", 16, reports_fail)?;
     assert_eq!(rt; ran.status, Status::of(Outcome::Refused));
-    assert_eq!(rt; ran.err.bytes(), b"t:1: error: N2 n".as_slice());
+    assert_eq!(rt; ran.err.bytes(), b"t:1: error: G9 w".as_slice());
     Ok(())
 }
 
@@ -541,5 +648,26 @@ fn many_patterns_are_read_and_written_at_once(rt: HostRuntime) -> Result<(), Fai
 "
         .as_slice();
     assert!(rt; ran.out.bytes().ends_with(last));
+    Ok(())
+}
+
+#[test]
+fn a_pattern_too_many_is_refused_before_overlaps(rt: HostRuntime) -> Result<(), Fail> {
+    let mut text = String::new(rt.alloc());
+    for _ in 0..8193u32 {
+        text.push_str("p --------------------------------\n")?;
+    }
+    let ran = run(
+        rt.alloc(),
+        &["gen", "t"],
+        text.as_bytes(),
+        4096,
+        NOTHING_FAILS,
+    )?;
+    assert_eq!(rt; ran.status, Status::of(Outcome::Refused));
+    assert_eq!(rt;
+        ran.err.bytes(),
+        b"t:8193: error: L9 too many patterns: p\n".as_slice()
+    );
     Ok(())
 }

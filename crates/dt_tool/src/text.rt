@@ -1,19 +1,17 @@
 //! Writes the C text of a list of patterns.
 
-ghost use Rattle.std.specs.Prelude.{◌≡◌, ◌<◌, ◌++◌, ◌==◌, false, nat_eq, decimal, replicate, flat_map, map, IfOk, OnOk};
+ghost use Rattle.std.specs.Prelude.{◌≡◌, ◌++◌, nat_eq, flat_map, map, IfOk, OnOk};
 ghost use Rattle.std.specs.Cmp.Lexicographic.{pointwise};
-ghost use Rattle.std.specs.Fmt.{digit_glyph};
 ghost use Rattle.indexmap.specs.IndexSet.{insert_key};
-ghost use Rattle.c_subset.specs.Pieces.{piece_text, pieces_text};
-ghost use Rattle.c_subset.specs.Programs.{hex};
+ghost use Rattle.c_subset.specs.Pieces.{pieces_text};
+ghost use Rattle.dt_forms.specs.View.{pattern_seen};
 ghost use Rattle.dt_tool.specs.Layout.{names_of, head_line, set_lines, prototype_lines, extract_lines, decoder_head_lines, union_lines, comment_line, extract_line, call_line, body_lines, if_line, close_line, pattern_lines, end_lines, where_patterns, layout};
-ghost use Rattle.dt_tool.specs.View.{pattern_seen};
 ghost use Rattle.dt_tool.specs.Parts.{part_seen};
 
-use crate::pattern::Pattern;
+use crate::parts::{Part, write_parts};
+use dt_forms::Pattern;
 use dt_values::Name;
 use indexmap::IndexSet;
-use itoa::Buffer;
 use std::alloc::{AllocError, Global};
 
 /// The C text of the patterns' decoder, which tries them in their order. The only error is that memory runs out.
@@ -30,82 +28,6 @@ pub fn text(alloc: Global, patterns: &[Pattern]) -> Result<Vec<u8>, AllocError>
     write_tests(&mut out, patterns)?;
     write_end(&mut out)?;
     Ok(out)
-}
-
-// A part of a line. `Hex` stands for the last eight hexadecimal digits of a number.
-#[derive(Clone, Copy)]
-enum Part<'a> {
-    Text(&'a [u8]),
-    Name(&'a Name),
-    Spaces(u32),
-    Decimal(u32),
-    Hex(u64),
-}
-
-fn put(out: &mut Vec<u8>, bytes: &[u8]) -> Result<(), AllocError>
-    ensures { OnOk result (out.new.items ≡ out.old.items ++ bytes.now) }
-{
-    out.extend_from_slice(bytes)
-}
-
-fn put_spaces(out: &mut Vec<u8>, count: u32) -> Result<(), AllocError>
-    ensures { OnOk result (out.new.items ≡ out.old.items ++ replicate count 32) }
-{
-    for _ in 0..count {
-        out.push(b' ')?;
-    }
-    Ok(())
-}
-
-fn put_decimal(out: &mut Vec<u8>, n: u32) -> Result<(), AllocError>
-    ensures { OnOk result (out.new.items ≡ out.old.items ++ decimal n) }
-{
-    let mut buffer = Buffer::new();
-    put(out, buffer.format(n).as_bytes())
-}
-
-fn glyph(digit: u64) -> u8
-    requires { digit < 16 }
-    ensures { result ≡ digit_glyph false digit }
-{
-    if digit < 10 {
-        b'0' + digit as u8
-    } else {
-        b'a' + (digit as u8 - 10)
-    }
-}
-
-// The last hexadecimal digits of n, so many.
-fn put_hex(out: &mut Vec<u8>, digits: u32, n: u64) -> Result<(), AllocError>
-    ensures { OnOk result (out.new.items ≡ out.old.items ++ hex digits n) }
-{
-    if digits == 0 {
-        return Ok(());
-    }
-    put_hex(out, digits - 1, n / 16)?;
-    out.push(glyph(n % 16))?;
-    Ok(())
-}
-
-fn write_part(out: &mut Vec<u8>, part: Part) -> Result<(), AllocError>
-    ensures { OnOk result (out.new.items ≡ out.old.items ++ piece_text (part_seen part.entry)) }
-{
-    match part {
-        Part::Text(bytes) => put(out, bytes),
-        Part::Name(name) => put(out, name.bytes()),
-        Part::Spaces(count) => put_spaces(out, count),
-        Part::Decimal(n) => put_decimal(out, n),
-        Part::Hex(n) => put_hex(out, 8, n),
-    }
-}
-
-fn write_parts(out: &mut Vec<u8>, parts: &[Part]) -> Result<(), AllocError>
-    ensures { OnOk result (out.new.items ≡ out.old.items ++ pieces_text (map part_seen parts.now)) }
-{
-    for part in parts {
-        write_part(out, *part)?;
-    }
-    Ok(())
 }
 
 // Parts that stand only where there is a pattern.
@@ -243,9 +165,9 @@ fn write_comment_line(out: &mut Vec<u8>, level: u32, pattern: &Pattern) -> Resul
         &[
             Part::Spaces(level),
             Part::Text(b"/* "),
-            Part::Decimal(pattern.file as u32 + 1),
+            Part::Decimal(pattern.file as u64 + 1),
             Part::Text(b":"),
-            Part::Decimal(pattern.line),
+            Part::Decimal(pattern.line as u64),
             Part::Text(b" */\n"),
         ],
     )?;
@@ -316,11 +238,11 @@ fn write_close_line(out: &mut Vec<u8>, level: u32) -> Result<(), AllocError>
 fn write_test(out: &mut Vec<u8>, pattern: &Pattern) -> Result<(), AllocError>
     ensures { OnOk result (out.new.items ≡ out.old.items ++ pieces_text (pattern_lines (pattern_seen pattern.now))) }
 {
-    if pattern.mask == 0 {
+    if pattern.fixed_mask == 0 {
         write_body(out, 4, pattern)?;
         return Ok(());
     }
-    write_if_line(out, 4, pattern.mask, pattern.bits)?;
+    write_if_line(out, 4, pattern.fixed_mask, pattern.fixed_bits)?;
     write_body(out, 8, pattern)?;
     write_close_line(out, 4)?;
     Ok(())

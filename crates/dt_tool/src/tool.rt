@@ -4,10 +4,10 @@ ghost use Rattle.std.specs.Prelude.{◌≡◌, ◌≢◌, ◌≤◌, ◌⊎◌, 
 ghost use Rattle.dt_io.specs.Causes.{Rose};
 ghost use Rattle.dt_io.specs.Bytes.{AppendsPart, appended};
 ghost use Rattle.dt_tool.specs.Words.{file_named, texts};
-ghost use Rattle.dt_tool.specs.Due.{due, input};
-ghost use Rattle.dt_tool.specs.Patterns.{flat_list};
+ghost use Rattle.dt_tool.specs.Due.{CanBeDue, Due, IsDue, input};
+ghost use Rattle.dt_tool.specs.Verdicts.{patterns_of};
 ghost use Rattle.dt_tool.specs.Decoders.{AppendsDecoder};
-ghost use Rattle.dt_tool.specs.Stops.{IsMissing, IsRefused, IsWritten};
+ghost use Rattle.dt_tool.specs.Stops.{IsMissing};
 ghost use Rattle.dt_tool.specs.Statuses.{exit_status};
 ghost use Rattle.dt_tool.specs.Answers.{Completes, Reports, SaysRefusal, WritesFront, WritesWhole, message_for};
 
@@ -31,22 +31,22 @@ pub fn tool<D: Folder, O: Sink, E: Sink>(
 
     // When each outcome comes.
     ensures usage { (result.outcome ≡ Outcome.Usage) ↔ (file_named (texts words.now) ≡ None) }
-    ensures done { result.outcome ≡ Outcome.Done → IfSome (D.files folder.old) (λ files. IsWritten (due (texts words.now) files) (λ text. O.written out.new ≡ appended (O.written out.old) text)) }
-    ensures decoder { result.outcome ≡ Outcome.Done → IfSome (D.files folder.old) (λ files. IsSomeAnd (input (texts words.now) files) (λ bytes. AppendsDecoder (O.written out.old) (O.written out.new) (flat_list bytes))) }
-    ensures refused { result.outcome ≡ Outcome.Refused → IfSome (D.files folder.old) (λ files. IsRefused (due (texts words.now) files)) }
+    ensures done { result.outcome ≡ Outcome.Done → IfSome (D.files folder.old) (λ files. WritesWhole (IsDue (texts words.now) files) (O.written out.old) (O.written out.new)) }
+    ensures decoder { result.outcome ≡ Outcome.Done → IfSome (D.files folder.old) (λ files. IsSomeAnd (input (texts words.now) files) (λ bytes. AppendsDecoder (O.written out.old) (O.written out.new) (patterns_of bytes))) }
+    ensures refused { result.outcome ≡ Outcome.Refused → IfSome (D.files folder.old) (λ files. SaysRefusal (IsDue (texts words.now) files) (E.written err.old) (E.written err.new) (E.faults err.old) (E.faults err.new)) }
     ensures unread { result.outcome ≡ Outcome.ReadFault → Rose (D.misses folder.old) (D.misses folder.new) ⊎ Rose (D.read_faults folder.old) (D.read_faults folder.new) }
-    ensures missing { result.outcome ≡ Outcome.ReadFault → IfSome (D.files folder.old) (λ files. IsMissing (due (texts words.now) files) ⊎ Rose (D.read_faults folder.old) (D.read_faults folder.new)) }
+    ensures missing { result.outcome ≡ Outcome.ReadFault → IfSome (D.files folder.old) (λ files. IsMissing (IsDue (texts words.now) files) ⊎ Rose (D.read_faults folder.old) (D.read_faults folder.new)) }
     ensures unwritten { result.outcome ≡ Outcome.WriteFault → Rose (O.faults out.old) (O.faults out.new) }
-    ensures part { result.outcome ≡ Outcome.WriteFault → IfSome (D.files folder.old) (λ files. IsWritten (due (texts words.now) files) (λ text. AppendsPart (O.written out.old) (O.written out.new) text)) }
-    ensures complete { IfSome (D.files folder.old) (λ files. Completes (due (texts words.now) files) result.outcome (Rose (D.read_faults folder.old) (D.read_faults folder.new)) (Rose (O.faults out.old) (O.faults out.new))) }
+    ensures part { result.outcome ≡ Outcome.WriteFault → IfSome (D.files folder.old) (λ files. WritesFront (IsDue (texts words.now) files) (O.written out.old) (O.written out.new)) }
+    ensures complete { IfSome (D.files folder.old) (λ files. (what : Due) → IsDue (texts words.now) files what → Completes what result.outcome (Rose (D.read_faults folder.old) (D.read_faults folder.new)) (Rose (O.faults out.old) (O.faults out.new))) }
 
     // The same of folders that don't tell their files: a text or a refusal is one for some content of the named file.
-    ensures some_text { result.outcome ≡ Outcome.Done → WritesWhole (texts words.now) (O.written out.old) (O.written out.new) }
-    ensures some_part { result.outcome ≡ Outcome.WriteFault → WritesFront (texts words.now) (O.written out.old) (O.written out.new) }
-    ensures some_refusal { result.outcome ≡ Outcome.Refused → SaysRefusal (texts words.now) (E.written err.old) (E.written err.new) (E.faults err.old) (E.faults err.new) }
+    ensures some_text { result.outcome ≡ Outcome.Done → WritesWhole (CanBeDue (texts words.now)) (O.written out.old) (O.written out.new) }
+    ensures some_part { result.outcome ≡ Outcome.WriteFault → WritesFront (CanBeDue (texts words.now)) (O.written out.old) (O.written out.new) }
+    ensures some_refusal { result.outcome ≡ Outcome.Refused → SaysRefusal (CanBeDue (texts words.now)) (E.written err.old) (E.written err.new) (E.faults err.old) (E.faults err.new) }
 
     // What is said of it.
-    ensures said { IfSome (message_for result.outcome (texts words.now) (D.files folder.old)) (λ text. Reports (E.written err.old) (E.written err.new) (E.faults err.old) (E.faults err.new) text) }
+    ensures said { IfSome (message_for result.outcome (texts words.now)) (λ text. Reports (E.written err.old) (E.written err.new) (E.faults err.old) (E.faults err.new) text) }
 
     // What stands afterwards.
     ensures untouched { result.outcome ≢ Outcome.Done → result.outcome ≢ Outcome.WriteFault → out.new ≡ out.old }
@@ -63,8 +63,8 @@ pub fn tool<D: Folder, O: Sink, E: Sink>(
     match generate(alloc, words, folder) {
         Ok(text) => write_text(text.as_slice(), out, err),
         Err(Stop::Usage) => report(messages::USAGE, Outcome::Usage, err),
-        Err(Stop::ReadFault(message)) => report(message.as_str(), Outcome::ReadFault, err),
-        Err(Stop::Refused(message)) => report(message.as_str(), Outcome::Refused, err),
+        Err(Stop::ReadFault(message)) => report(message.as_slice(), Outcome::ReadFault, err),
+        Err(Stop::Refused(message)) => report(message.as_slice(), Outcome::Refused, err),
         Err(Stop::NoMemory) => report(messages::NO_MEMORY, Outcome::NoMemory, err),
     }
 }
@@ -90,13 +90,13 @@ fn write_text<O: Sink, E: Sink>(text: &[u8], out: &mut O, err: &mut E) -> Status
 }
 
 // Says a text on `err`, whether it takes it or not.
-fn report<E: Sink>(text: &str, outcome: Outcome, err: &mut E) -> Status
+fn report<E: Sink>(text: &[u8], outcome: Outcome, err: &mut E) -> Status
     ensures outcome { result.outcome ≡ outcome }
     ensures number { result.number ≡ exit_status outcome }
     ensures said { Reports (E.written err.old) (E.written err.new) (E.faults err.old) (E.faults err.new) text.now }
     ensures faults { E.faults err.old ≤ E.faults err.new }
     ensures rest { E.rest err.new ≡ E.rest err.old }
 {
-    let _ = write_all(err, text.as_bytes());
+    let _ = write_all(err, text);
     Status::of(outcome)
 }

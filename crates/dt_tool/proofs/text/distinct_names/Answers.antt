@@ -1,5 +1,5 @@
-use Rattle.dt_tool.specs.Patterns.{Pattern}
-use Rattle.dt_tool.specs.View.{pattern_seen}
+use Rattle.dt_forms.specs.Patterns.{Pattern}
+use Rattle.dt_forms.specs.View.{pattern_seen}
 use Rattle.dt_tool.proofs.FirstNames.{first_names_more}
 use Rattle.dt_tool.proofs.text.distinct_names.Goals as goal
 

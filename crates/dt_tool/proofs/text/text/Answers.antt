@@ -1,5 +1,5 @@
 use Rattle.std.proofs.Common.{map}
-use Rattle.dt_tool.specs.View.{pattern_seen}
+use Rattle.dt_forms.specs.View.{pattern_seen}
 use Rattle.dt_tool.proofs.Writing.{all_lines}
 use Rattle.dt_tool.proofs.text.text.Goals as goal
 

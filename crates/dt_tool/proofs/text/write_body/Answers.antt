@@ -1,5 +1,5 @@
 use Rattle.dt_tool.specs.Layout.{comment_line, extract_line, call_line}
-use Rattle.dt_tool.specs.View.{pattern_seen}
+use Rattle.dt_forms.specs.View.{pattern_seen}
 use Rattle.dt_tool.proofs.Writing.{both}
 use Rattle.dt_tool.proofs.text.write_body.Goals as goal
 

@@ -1,6 +1,6 @@
 use Rattle.std.proofs.Common.{sym}
 use Rattle.dt_tool.specs.Layout.{pattern_lines}
-use Rattle.dt_tool.specs.View.{pattern_seen}
+use Rattle.dt_forms.specs.View.{pattern_seen}
 use Rattle.dt_tool.proofs.Writing.{nothing, seen_lines_more}
 use Rattle.dt_tool.proofs.text.write_tests.Goals as goal
 

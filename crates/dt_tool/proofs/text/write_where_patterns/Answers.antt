@@ -1,6 +1,6 @@
 use Rattle.std.proofs.Common.{arith}
 use Rattle.std.proofs.lemmas.Bool.Decides.{nat_tests}
-use Rattle.dt_tool.specs.View.{pattern_seen}
+use Rattle.dt_forms.specs.View.{pattern_seen}
 use Rattle.dt_tool.proofs.Writing.{no_patterns}
 use Rattle.dt_tool.proofs.text.write_where_patterns.Goals as goal
 

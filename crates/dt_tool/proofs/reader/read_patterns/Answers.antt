@@ -1,9 +1,0 @@
-use Rattle.std.proofs.Common.{length, subst, sym}
-use Rattle.dt_lines.specs.Spans.{AreSpans}
-use Rattle.dt_lines.specs.declared.line.Logical.{Logical}
-use Rattle.dt_tool.proofs.reader.read_patterns.Goals as goal
-
-pub read_pattern-requires : goal.read_pattern-requires
-read_pattern-requires c =
-    let P : Logical → Type 0 = λ l. AreSpans (length c.args.bytes.now) l.tokens in
-    subst P (sym c.line-item.is) (c.requires c.loop-line.line-index c.line-item.result c.loop-line-test.true)
