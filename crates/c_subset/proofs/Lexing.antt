@@ -4,8 +4,8 @@ use Rattle.std.specs.Prelude.{flat_map}
 use Rattle.std.specs.List.{All}
 use Rattle.std.proofs.lemmas.List.Elements.{All-head, All-tail}
 use Rattle.c_subset.specs.Tokens.{Token, between, put, and_then, whole, tokens_of}
-use Rattle.c_subset.specs.Pieces.{Piece, pieces_text, AllNamed, seen}
-use Rattle.c_subset.proofs.Seeing.{seen-append, as_seen}
+use Rattle.c_subset.specs.Pieces.{Piece, pieces_text}
+use Rattle.c_subset.proofs.Seeing.{AllNamed, seen, seen-append, as_seen}
 
 -- the pieces have these tokens, and the last of them has ended
 pub record Lexes (ps : List Piece) (ts : List Token) : Type 0 where

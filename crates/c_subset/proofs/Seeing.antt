@@ -2,8 +2,40 @@
 use Rattle.std.proofs.Common.{◌≡◌, ℕ, zero, suc, List, [], ◌∷◌, ◌++◌, replicate, Option, Some, None, option_map, refl, sym, ap, ◌∙◌, arith, append_assoc, append-nil}
 use Rattle.c_subset.specs.Tokens.{Token, mark, kind, Mode, between, in_word, after_equals, after_dash, after_slash, in_comment, after_star, Read, put, begin, in_word_step, step, read, and_then, ends, whole, tokens_of}
 use Rattle.c_subset.specs.Bytes.{Letters, IsWord}
-use Rattle.c_subset.specs.Pieces.{Piece, text, name, spaces, piece_text, pieces_text, Named, AllNamed, name_seen, spaces_seen, piece_seen, seen}
+use Rattle.c_subset.specs.Pieces.{Piece, text, name, spaces, piece_text, pieces_text}
 use Rattle.c_subset.proofs.Bytes.{letters_first, letters_rest}
+
+-- the names of pieces are words
+abbrev pub Named : Piece → Type 0
+Named (text bs) = Unit {0}
+Named (name bs) = IsWord bs
+Named (spaces n) = Unit {0}
+
+abbrev pub AllNamed : List Piece → Type 0
+AllNamed [] = Unit {0}
+AllNamed (p ∷ ps) = Named p × AllNamed ps
+
+-- what a piece reads as, whatever its name is; None says only that this isn't known
+abbrev pub name_seen : List ℕ → Mode → Option Read
+name_seen bs between = Some ([], in_word bs)
+name_seen bs (in_word w) = Some ([], in_word (w ++ bs))
+name_seen bs in_comment = Some ([], in_comment)
+name_seen bs after_dash = Some (mark 45 ∷ [], in_word bs)
+name_seen bs m = None
+
+abbrev pub spaces_seen : Mode → Option Read
+spaces_seen between = Some ([], between)
+spaces_seen in_comment = Some ([], in_comment)
+spaces_seen m = None
+
+abbrev pub piece_seen : Piece → Mode → Option Read
+piece_seen (text bs) m = read bs m
+piece_seen (name bs) m = name_seen bs m
+piece_seen (spaces n) m = spaces_seen m
+
+unfoldable pub seen : List Piece → Mode → Option Read
+seen [] m = Some ([], m)
+seen (p ∷ ps) m = and_then (seen ps) (piece_seen p m)
 
 -- what stands first is put before what is read later
 pub put-put : (ts us : List Token) (r : Option Read) → option_map (put ts) (option_map (put us) r) ≡ option_map (put (ts ++ us)) r

@@ -7,7 +7,8 @@ use Rattle.std.proofs.lemmas.List.Elements.{All-head, All-tail, All-cons, All-ma
 use Rattle.dt_values.specs.Names.{IsName}
 use Rattle.dt_values.specs.declared.width.Width.TheVariants.{W32}
 use Rattle.c_subset.specs.Tokens.{mark, read, tokens_of}
-use Rattle.c_subset.specs.Pieces.{Piece, seen}
+use Rattle.c_subset.specs.Pieces.{Piece}
+use Rattle.c_subset.proofs.Seeing.{seen}
 use Rattle.c_subset.specs.Programs as c
 use Rattle.c_subset.specs.Programs.{Name, extract, call, Stmts, set_spelled, pattern_spelled, extract_spelled, if_spelled, spelled, all_spelled, union_spelled, decoder_head_spelled, decoder_end_spelled, prefix_of, spelling}
 use Rattle.c_subset.proofs.Lexing.{Lexes, lexes_none, lexes-append, tokens_from}

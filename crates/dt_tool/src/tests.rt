@@ -370,10 +370,10 @@ fn a_file_has_up_to_65535_lines(rt: HostRuntime) -> Result<(), Fail> {
 
 #[test]
 fn the_example_gives_the_text_of_the_readme(rt: HostRuntime) -> Result<(), Fail> {
-    let text = b"# RV32I instructions whose operands are ignored (RISC-V Unprivileged ISA, RV32I).
+    let text = b"# RV32I instructions without operands, or with operands that a decoder may ignore.
 ecall    000000000000 00000 000 00000 1110011
 ebreak   000000000001 00000 000 00000 1110011
-# Fence modes, sets and registers are reserved for finer fences.
+# A simple core takes each fence as the strongest one, so its operands are ignored.
 fence    ---- ---- ---- ----- 000 ----- 0001111
 fence_i  ------------   ----- 001 ----- 0001111
 ";
