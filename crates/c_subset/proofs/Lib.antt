@@ -8,5 +8,4 @@ mod ExampleRules
 pub mod Seeing
 pub mod Single
 pub mod ToRules
-pub mod Views
 pub mod Words

@@ -164,7 +164,3 @@ put_more ts us (Some l) = ap Some (append_assoc ts us l)
 pub put_ends : (ts : List Token) (r : Option Read) → whole (option_map (put ts) r) ≡ option_map (λ us. ts ++ us) (whole r)
 put_ends ts None = refl
 put_ends ts (Some r) = put_more ts r.0 (ends r.1)
-
--- a text that ends between tokens is read by itself, before any other
-pub tokens-append : (a b : List ℕ) (ts : List Token) → read a between ≡ Some (ts, between) → tokens_of (a ++ b) ≡ option_map (λ us. ts ++ us) (tokens_of b)
-tokens-append a b ts e = ap whole (read-append a b between ∙ ap (and_then (read b)) e) ∙ put_ends ts (read b between)

@@ -226,5 +226,5 @@ programs_once p q h k is =
 some_same : (x y : List Token) → Some x ≡ Some y → x ≡ y
 some_same x y e = cc
 
-pub text_spells_one : (text : List ℕ) (p q : Program) → Spells text p → Spells text q → p ≡ q
-text_spells_one text p q s t = programs_once p q s.rules t.rules (some_same (spelling p) (spelling q) (sym s.tokens ∙ t.tokens))
+pub law_text_spells_one : (text : List ℕ) (p q : Program) → Spells text p → Spells text q → p ≡ q
+law_text_spells_one text p q s t = programs_once p q s.rules t.rules (some_same (spelling p) (spelling q) (sym s.tokens ∙ t.tokens))

@@ -75,12 +75,6 @@ name_is_word bytes h =
 pub underscore : IsWord (codes "_")
 underscore = record { some = lit< tt; letters = refl }
 
-pub extract_word : IsWord (codes "_extract_")
-extract_word = record { some = lit< tt; letters = refl }
-
-pub hex_sign : IsWord (codes "0x")
-hex_sign = record { some = lit< tt; letters = refl }
-
 -- the words that a width decides
 pub word_type_is : (w : Width) → IsWord (word_type w)
 word_type_is W16 = record { some = lit< tt; letters = refl }
@@ -91,6 +85,3 @@ some_digits : (w : Width) → 0 < hex_length w
 some_digits W16 = lit< tt
 some_digits W32 = lit< tt
 some_digits W64 = lit< tt
-
-pub digits_word_is : (w : Width) (n : ℕ) → IsWord (hex (hex_length w) n)
-digits_word_is w n = hex_word_is (hex_length w) n (some_digits w)

@@ -8,13 +8,13 @@ ghost use Rattle.c_subset.specs.Spells.{Spells};
 ghost use Rattle.c_subset.specs.Examples.{Nop, Empty, TokenExamples};
 
 /// The tokens that are read of a text are those that the lexical rules give it.
-pub fn text_is_lexed()
+pub fn law_text_is_lexed()
     ensures read { (text : List ℕ) (tokens : List Token) → IsLexed text tokens → tokens_of text ≡ Some tokens }
     ensures lexed { (text : List ℕ) (tokens : List Token) → tokens_of text ≡ Some tokens → IsLexed text tokens }
 {}
 
 /// A text spells one program at most.
-pub fn text_spells_one()
+pub fn law_text_spells_one()
     ensures { (text : List ℕ) (p q : Program) → Spells text p → Spells text q → p ≡ q }
 {}
 

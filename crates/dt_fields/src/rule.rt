@@ -28,15 +28,15 @@ pub enum Rule {
     L1,
     /// Extra tokens: something follows a closing brace or bracket.
     L2,
-    /// Mismatched close: a brace closes a bracket, or a bracket a brace.
+    /// Mismatched close: a brace where the innermost open group isn't in braces, or a bracket where it is.
     L3,
-    /// Extra close: no group is open.
+    /// Extra close: a bracket where no group is open.
     L4,
     /// Extra tokens: something follows an opening brace or bracket.
     L5,
     /// Missing close: a group is open at the end of its file.
     L6,
-    /// Invalid name: the first token is none, and no group's.
+    /// Invalid name: the first token is no brace or bracket, and no name, alone or after `%`, `&` or `@`.
     L7,
     /// Nested too deep: a group opens inside 16 open ones.
     L8,
@@ -70,7 +70,7 @@ pub enum Rule {
     A3,
     /// Keyword: the argument has the name of a C keyword.
     A4,
-    /// Too many arguments: it is argument 33.
+    /// Too many arguments: it is argument 33 of a set, a format or a pattern line.
     A5,
     /// Multiple sets: the line names a second set.
     G1,
@@ -100,7 +100,7 @@ pub enum Rule {
     G13,
     /// Fixed bits meet the format's: the two masks share a bit.
     G14,
-    /// Other width: the format has another count of bits.
+    /// Other width: the format has bits, and another count of them.
     G15,
     /// Set twice: an argument has a value from the format and from the pattern.
     G16,
@@ -126,11 +126,12 @@ pub enum Rule {
     G26,
     /// Conflicting sets: an earlier pattern of the name has another set.
     G27,
-    /// Inferred name taken: a new set or format would have the name of another.
+    /// Inferred name taken: a new set would have the name of a set or of an earlier pattern, or a new format
+    /// that of a format.
     G28,
     /// Empty group.
     H1,
-    /// Overlapping: entries of an exclusive group can match one word.
+    /// Overlapping: entries that exclude one another aren't told apart by the bits that all of them fix.
     H2,
     /// Widths differ: patterns below one group have different widths.
     H3,

@@ -1,5 +1,6 @@
 -- What holds of pattern lines that break no rule.
 use Rattle.std.proofs.Common.{◌≡◌, ℕ, ◌+◌, ◌≤◌, ◌==◌, Bool, true, false, List, [], ◌∷◌, ◌++◌, length, Option, Some, None, refl, ◌∙◌, arith}
+use Rattle.std.specs.Option.{option_or}
 use Rattle.std.specs.Prelude.{IfSome, IsTrue, not}
 use Rattle.std.specs.List.{All, concat, cons_option}
 use Rattle.std.proofs.lemmas.Bool.Decides.{nat_tests}
@@ -9,7 +10,7 @@ use Rattle.dt_values.specs.Names.{is_name, IsName}
 use Rattle.dt_fields.specs.declared.rule.Rule.TheVariants as rule
 use Rattle.dt_lines.specs.Lines.{Line, logical_lines}
 use Rattle.dt_forms.specs.Patterns.{PatternLine, pattern_in, pattern_line, pattern_lines_in, pattern_lines_from, pattern_lines}
-use Rattle.dt_forms.specs.Rules.{nothing, token, number, Broken, Fault, Scope, scope_of, where_broken, head_faults, is_full, is_indented, is_not_built, token_faults, whole_faults, faults_in, faults_of_line, fault_or, or_later, made_by, after_line, after_lines, fault_in_lines, fault_in_files, first_fault}
+use Rattle.dt_forms.specs.Rules.{nothing, token, number, Broken, Fault, Scope, scope_of, where_broken, head_faults, is_full, is_indented, is_not_built, token_faults, whole_faults, faults_in, faults_of_line, fault_or, made_by, after_line, after_lines, fault_in_lines, fault_in_files, first_fault}
 
 pub both_empty : (xs ys : List Broken) → xs ++ ys ≡ [] → (xs ≡ []) × (ys ≡ [])
 both_empty [] ys h = (refl, h)
@@ -36,7 +37,7 @@ none_or : (file line : ℕ) (faults : List Broken) (later : Option Fault) → fa
 none_or file line [] later h = (refl, h)
 none_or file line (b ∷ bs) later h = absurd (cc)
 
-none_later : (now later : Option Fault) → or_later now later ≡ None → (now ≡ None) × (later ≡ None)
+none_later : (now later : Option Fault) → option_or now later ≡ None → (now ≡ None) × (later ≡ None)
 none_later None later h = (refl, h)
 none_later (Some fault) later h = absurd (cc)
 

@@ -1,13 +1,14 @@
 -- One file more, and what is left of the files.
 use Rattle.std.proofs.Common.{◌≡◌, ℕ, ◌+◌, ◌<◌, List, [], ◌∷◌, ◌++◌, length, map, drop, get_or, Option, Some, None, ap, ◌∙◌, sym, subst, append_assoc}
 use Rattle.std.proofs.lemmas.List.{drop_more, map-append, get_or-map}
+use Rattle.std.specs.Option.{option_or}
 use Rattle.dt_lines.specs.Lines.{logical_lines}
 use Rattle.dt_forms.specs.declared.fault.ModelFault.{ModelFault}
 use Rattle.dt_forms.specs.declared.fault.ModelFault.TheVariants as faults
 use Rattle.dt_forms.specs.declared.form.Pattern.{Pattern as Kept}
 use Rattle.dt_forms.specs.declared.source.Source.{Source}
 use Rattle.dt_forms.specs.Patterns.{PatternLine, pattern_lines_in, pattern_lines_from}
-use Rattle.dt_forms.specs.Rules.{Fault, Scope, after_lines, fault_in_lines, fault_in_files, or_later}
+use Rattle.dt_forms.specs.Rules.{Fault, Scope, after_lines, fault_in_lines, fault_in_files}
 use Rattle.dt_forms.specs.View.{FileBroken, ModelBroken, IsReported, kept_pattern, text_of_file, texts_of}
 
 file_left : (files : List Source) (i : ℕ) (s d : Source) → i < length files → s ≡ get_or files i d → drop i files ≡ s ∷ drop (i + 1) files
@@ -33,12 +34,12 @@ pub faults_more : (width : ℕ) (files : List Source) (i : ℕ) (s d : Source) (
     → fault_in_files width (i + 1) new (texts_of (drop (i + 1) files)) ≡ all
 faults_more width files i s d old new all h is none after before =
     sym (ap (λ sc. fault_in_files width (i + 1) sc (texts_of (drop (i + 1) files))) after)
-    ∙ sym (ap (λ o. or_later o (fault_in_files width (i + 1) (after_lines old (logical_lines s.bytes)) (texts_of (drop (i + 1) files)))) none)
+    ∙ sym (ap (λ o. option_or o (fault_in_files width (i + 1) (after_lines old (logical_lines s.bytes)) (texts_of (drop (i + 1) files)))) none)
     ∙ ap (λ fs. fault_in_files width i old (texts_of fs)) (sym (file_left files i s d h is))
     ∙ before
 
 -- a fault that there is comes before all later ones
-now_first : (now later all : Option Fault) (f : Fault) → Some f ≡ now → or_later now later ≡ all → Some f ≡ all
+now_first : (now later all : Option Fault) (f : Fault) → Some f ≡ now → option_or now later ≡ all → Some f ≡ all
 now_first None later all f h k = absurd (cc)
 now_first (Some g) later all f h k = h ∙ k
 
@@ -51,7 +52,7 @@ pub broken_here : (width : ℕ) (files : List Source) (i : ℕ) (s d : Source) (
     → fault_in_files width i old (texts_of (drop i files)) ≡ all
     → ModelBroken files fault all
 broken_here width files i s d old (faults.Broken fault) all h is broken before =
-    let same : or_later (fault_in_lines width i old (logical_lines s.bytes)) (fault_in_files width (i + 1) (after_lines old (logical_lines s.bytes)) (texts_of (drop (i + 1) files))) ≡ all
+    let same : option_or (fault_in_lines width i old (logical_lines s.bytes)) (fault_in_files width (i + 1) (after_lines old (logical_lines s.bytes)) (texts_of (drop (i + 1) files))) ≡ all
     = ap (λ fs. fault_in_files width i old (texts_of fs)) (sym (file_left files i s d h is)) ∙ before in
     let here : IsReported s.bytes fault all = record { same = now_first _ _ all _ broken.0.same same; within = broken.0.within } in
     subst (λ (bytes : List ℕ). IsReported bytes fault all) (sym (text_here files i s d fault.file h is broken.1)) here

@@ -25,11 +25,3 @@ both_sources a b h k (suc (suc n)) d below = absurd (omega arith)
 
 pub two_sources : (files : List Source) (a b : Source) → files ≡ a ∷ b ∷ [] → IsSourceAt 0 a → IsSourceAt 1 b → AreSources files
 two_sources files a b e h k = subst (λ (fs : List Source). AreSources fs) (sym e) (both_sources a b h k)
-
--- the sources of one file
-pub one_source : (files : List Source) (a : Source) → files ≡ a ∷ [] → IsSourceAt 0 a → AreSources files
-one_source files a e h = subst (λ (fs : List Source). AreSources fs) (sym e) alone
-  where
-    alone : AreSources (a ∷ [])
-    alone zero d below = h
-    alone (suc n) d below = absurd (omega arith)

@@ -1,13 +1,16 @@
 -- The model of files that break no rule is sound.
-use Rattle.std.proofs.Common.{◌≡◌, ℕ, zero, suc, ◌+◌, ◌*◌, ◌^◌, ◌<◌, ◌≤◌, ◌==◌, ◌||◌, Bool, true, false, List, [], ◌∷◌, length, map, None, refl, ap, ◌∙◌, sym, subst, ⊎_elim, arith, bit_and}
+use Rattle.std.proofs.Common.{◌≡◌, ℕ, zero, suc, ◌+◌, ◌*◌, ◌^◌, ◌<◌, ◌≤◌, ◌==◌, ◌||◌, Bool, true, false, List, [], ◌∷◌, length, get_or, map, None, refl, ap, ◌∙◌, sym, subst, ⊎_elim, arith, bit_and, add-one}
 use Rattle.std.specs.Prelude.{◌≢◌, if◌then◌else◌}
 use Rattle.std.specs.List.{All, AllPairs}
+use Rattle.std.specs.List.Sorted.{IsPermutation}
 use Rattle.std.proofs.Math.Pow.{pow_mono}
 use Rattle.std.proofs.lemmas.Bool.{cases_eq}
 use Rattle.std.proofs.lemmas.Bool.Decides.{nat_tests}
 use Rattle.std.proofs.lemmas.Nat.{and_block}
-use Rattle.std.proofs.lemmas.List.{length-map}
+use Rattle.std.proofs.lemmas.List.{get_or-map, length-map}
 use Rattle.std.proofs.lemmas.List.Elements.{All-nil, All-cons, All-map, All-same, All-weaker}
+use Rattle.std.proofs.lemmas.List.Sorted.{IsPermutation-refl}
+use Rattle.dt_values.specs.declared.ctype.Member.{Member}
 use Rattle.dt_values.specs.Widths.{width_bits}
 use Rattle.dt_fields.specs.declared.set.SetDef.{SetDef}
 use Rattle.dt_forms.specs.declared.bits.Digits.TheVariants.{Fixed, Ones, Ignored}
@@ -18,8 +21,8 @@ use Rattle.dt_forms.specs.declared.options.Options.{Options}
 use Rattle.dt_forms.specs.Models.{IsModelOf, sets_of, formats_of, first_set, first_format}
 use Rattle.dt_forms.specs.Patterns.{Pattern, PatternLine, fixed_digit, one_digit, ignored_digit, number_of, pattern_of, pattern_lines, flat_list}
 use Rattle.dt_forms.specs.Rules.{first_fault}
-use Rattle.dt_forms.specs.Sound.{HasMasks, FormatHasMasks, IsBefore, IsSound, set_number}
-use Rattle.dt_forms.specs.Trees.{items_of, numbers_of, numbers_from}
+use Rattle.dt_forms.specs.Sound.{HasMasks, FormatHasMasks, Place, IsEarlier, IsBefore, IsSound, argument_names, depth, given_names, place_of, places_of, set_number}
+use Rattle.dt_forms.specs.Trees.{one, items_from, items_of, numbers_of, numbers_from}
 use Rattle.dt_forms.specs.View.{kept_pattern}
 use Rattle.dt_forms.proofs.BinaryNumbers.{number_below}
 use Rattle.dt_forms.proofs.Entries.{numbers_of_ones}
@@ -113,6 +116,68 @@ one_set_of : (formats : List Format) (ps : List PatternLine) → Pairs (SameSet 
 one_set_of formats [] = tt
 one_set_of formats (p ∷ ps) = (All-map (SameSet formats (kept_pattern p)) kept_pattern ps (λ k d h same. refl), one_set_of formats ps)
 
+few_arguments_of : (decode : List ℕ) (ps : List Pattern) → All (λ s. length s.members ≤ 32) (sets_of decode ps)
+few_arguments_of decode [] = All-nil (λ (s : SetDef). length s.members ≤ 32)
+few_arguments_of decode (p ∷ ps) = All-cons (λ (s : SetDef). length s.members ≤ 32) (first_set decode) [] (omega arith) (All-nil (λ (s : SetDef). length s.members ≤ 32))
+
+abbrev HasDifferentArguments : SetDef → Type 0
+HasDifferentArguments s = AllPairs (λ a b. a.name ≢ b.name) s.members
+
+different_arguments_of : (decode : List ℕ) (ps : List Pattern) → All HasDifferentArguments (sets_of decode ps)
+different_arguments_of decode [] = All-nil HasDifferentArguments
+different_arguments_of decode (p ∷ ps) = All-cons HasDifferentArguments (first_set decode) [] (all_pairs (λ (a b : Member). a.name ≢ b.name) [] tt) (All-nil HasDifferentArguments)
+
+abbrev GivesArguments : List SetDef → List Format → Kept → Type 0
+GivesArguments sets formats p = IsPermutation (given_names formats p) (argument_names sets formats p)
+
+-- a pattern of bits alone gives no value, and its set has no argument
+no_argument : (decode : List ℕ) (width : ℕ) (ps : List Pattern) (p : PatternLine) → GivesArguments (sets_of decode ps) (formats_of decode width ps) (kept_pattern p)
+no_argument decode width [] p = IsPermutation-refl []
+no_argument decode width (q ∷ ps) p = IsPermutation-refl []
+
+values_of : (decode : List ℕ) (width : ℕ) (ps : List PatternLine) → All (GivesArguments (sets_of decode (map pattern_of ps)) (formats_of decode width (map pattern_of ps))) (map kept_pattern ps)
+values_of decode width ps =
+    let P : Kept → Type 0 = GivesArguments (sets_of decode (map pattern_of ps)) (formats_of decode width (map pattern_of ps)) in
+    All-map P kept_pattern ps (λ k d h. no_argument decode width (map pattern_of ps) (get_or ps k d))
+
+-- patterns alone have no depth
+depth_of_ones : (ns : List ℕ) → depth (items_from (map one ns)) ≡ 0
+depth_of_ones [] = refl
+depth_of_ones (n ∷ ns) = omega (arith, depth_of_ones ns)
+
+-- their places are those of the patterns
+abbrev place_at : List Place → ℕ → Place
+place_at places n = get_or places n (record { file = 0; line = 0 })
+
+places_later : (a : Place) (places : List Place) (n m : ℕ) → map (place_at (a ∷ places)) (numbers_from (n + 1) m) ≡ map (place_at places) (numbers_from n m)
+places_later a places n zero = refl
+places_later a places n (suc m) =
+    ap (λ k. place_at (a ∷ places) k ∷ map (place_at (a ∷ places)) (numbers_from (n + 1 + 1) m)) (add-one n)
+    ∙ ap (λ bs. place_at places n ∷ bs) (places_later a places (n + 1) m)
+
+all_places : (places : List Place) → map (place_at places) (numbers_from 0 (length places)) ≡ places
+all_places [] = refl
+all_places (a ∷ places) = ap (λ bs. a ∷ bs) (places_later a places 0 (length places) ∙ all_places places)
+
+places_of_ones : (ps : List Kept) (ns : List ℕ) → places_of ps (items_from (map one ns)) ≡ map (place_at (map place_of ps)) ns
+places_of_ones ps [] = refl
+places_of_ones ps (n ∷ ns) = ap (λ bs. place_at (map place_of ps) n ∷ bs) (places_of_ones ps ns)
+
+places_of_patterns : (ps : List Kept) → places_of ps (items_from (map one (numbers_from 0 (length ps)))) ≡ map place_of ps
+places_of_patterns ps =
+    places_of_ones ps (numbers_from 0 (length ps))
+    ∙ ap (λ n. map (place_at (map place_of ps)) (numbers_from 0 n)) (sym (length-map ps place_of))
+    ∙ all_places (map place_of ps)
+
+places_rise : (ps : List Kept) → AllPairs IsBefore ps → AllPairs IsEarlier (map place_of ps)
+places_rise [] h i j e before below = absurd (omega arith)
+places_rise (p ∷ ps) h i j e before below =
+    let count : length (map place_of (p ∷ ps)) ≡ length (p ∷ ps) = length-map (p ∷ ps) place_of in
+    let here : get_or (map place_of (p ∷ ps)) i e ≡ place_of (get_or (p ∷ ps) i p) = get_or-map place_of (p ∷ ps) i p e (omega arith) in
+    let there : get_or (map place_of (p ∷ ps)) j e ≡ place_of (get_or (p ∷ ps) j p) = get_or-map place_of (p ∷ ps) j p e (omega arith) in
+    let rises : IsEarlier (place_of (get_or (p ∷ ps) i p)) (place_of (get_or (p ∷ ps) j p)) = h i j p before (omega arith) in
+    subst (λ a. IsEarlier a (get_or (map place_of (p ∷ ps)) j e)) (sym here) (subst (λ b. IsEarlier (place_of (get_or (p ∷ ps) i p)) b) (sym there) rises)
+
 numbers_below : (n m bound : ℕ) → n + m ≤ bound → All (λ k. k < bound) (numbers_from n m)
 numbers_below n zero bound h = All-nil (λ k. k < bound)
 numbers_below n (suc m) bound h = All-cons (λ k. k < bound) n (numbers_from (n + 1) m) (omega arith) (numbers_below (n + 1) m bound (omega arith))
@@ -124,6 +189,9 @@ sound_model options texts model h none =
     let count : length model.patterns ≡ length (pattern_lines texts) = ap length h.patterns ∙ length-map (pattern_lines texts) kept_pattern in
     let listed : length (flat_list texts) ≡ length model.patterns = length-map (pattern_lines texts) pattern_of ∙ sym count in
     let once : numbers_of (items_of model.entries) ≡ numbers_from 0 (length model.patterns) = ap numbers_of h.entries ∙ numbers_of_ones (numbers_from 0 (length (flat_list texts))) ∙ ap (numbers_from 0) listed in
+    let rising : AllPairs IsBefore model.patterns = subst (λ (ps : List Kept). AllPairs IsBefore ps) (sym h.patterns) (all_rise texts) in
+    let ones : items_of model.entries ≡ items_from (map one (numbers_from 0 (length model.patterns))) = h.entries ∙ ap (λ n. items_from (map one (numbers_from 0 n))) listed in
+    let values : All (GivesArguments (sets_of options.decode (flat_list texts)) (formats_of options.decode (width_bits options.width) (flat_list texts))) model.patterns = All-same (GivesArguments (sets_of options.decode (flat_list texts)) (formats_of options.decode (width_bits options.width) (flat_list texts))) model.patterns _ h.patterns (values_of options.decode (width_bits options.width) (pattern_lines texts)) in
     record {
       masks = All-same (HasMasks (width_bits model.width)) model.patterns (map kept_pattern (pattern_lines texts)) h.patterns (all_masks (width_bits model.width) (pattern_lines texts) wide);
       format_masks = subst (λ w. All (FormatHasMasks w) model.formats) (sym width) (All-same (FormatHasMasks (width_bits options.width)) model.formats _ h.formats (format_masks_of options.decode (width_bits options.width) (flat_list texts)));
@@ -132,9 +200,14 @@ sound_model options texts model h none =
       pattern_numbers = All-same (λ n. n < length model.patterns) (numbers_of (items_of model.entries)) _ once (numbers_below 0 (length model.patterns) (length model.patterns) (omega arith));
       each_once = once;
       few = omega (arith, all_few (width_bits options.width) texts none);
-      places = subst (λ (ps : List Kept). AllPairs IsBefore ps) (sym h.patterns) (all_rise texts);
+      few_arguments = All-same (λ (s : SetDef). length s.members ≤ 32) model.sets _ h.sets (few_arguments_of options.decode (flat_list texts));
+      nested = omega (arith, ap depth ones, depth_of_ones (numbers_from 0 (length model.patterns)));
+      places = rising;
       whole_words = All-same (λ (p : Kept). p.bits ≡ width_bits model.width) model.patterns (map kept_pattern (pattern_lines texts)) h.patterns (all_bits (width_bits model.width) (pattern_lines texts) wide);
       set_names = subst (λ (ss : List SetDef). AllPairs (λ s t. s.name ≢ t.name) ss) (sym h.sets) (set_names_of options.decode (flat_list texts));
       format_names = subst (λ (fs : List Format). AllPairs (λ f g. f.name ≢ g.name) fs) (sym h.formats) (format_names_of options.decode (width_bits options.width) (flat_list texts));
       one_set = subst (λ (ps : List Kept). AllPairs (λ p q. p.name ≡ q.name → set_number model.formats p ≡ set_number model.formats q) ps) (sym h.patterns) (all_pairs (SameSet model.formats) (map kept_pattern (pattern_lines texts)) (one_set_of model.formats (pattern_lines texts)));
+      different_arguments = All-same HasDifferentArguments model.sets _ h.sets (different_arguments_of options.decode (flat_list texts));
+      values = subst (λ (ss : List SetDef). All (GivesArguments ss model.formats) model.patterns) (sym h.sets) (subst (λ (fs : List Format). All (GivesArguments (sets_of options.decode (flat_list texts)) fs) model.patterns) (sym h.formats) values);
+      entry_places = subst (λ (bs : List Place). AllPairs IsEarlier bs) (sym (ap (places_of model.patterns) ones ∙ places_of_patterns model.patterns)) (places_rise model.patterns rising);
     }

@@ -1,6 +1,7 @@
 -- The rules of the lines of pattern files, as decodetree.py checks them, for lines of a name and bits. The order of the rules is this project's.
-use Rattle.std.specs.Prelude.{ℕ, ◌+◌, ◌-◌, ◌^◌, ◌==◌, ◌||◌, nat_lt, Bool, true, false, List, [], ◌∷◌, ◌++◌, length, Option, Some, None, codes, not, bit_or, bit_xor, if◌then◌else◌}
+use Rattle.std.specs.Prelude.{ℕ, ◌+◌, ◌-◌, ◌*◌, ◌^◌, ◌==◌, ◌||◌, nat_lt, Bool, true, false, List, [], ◌∷◌, ◌++◌, length, Option, Some, None, codes, not, bit_or, bit_xor, if◌then◌else◌}
 use Rattle.std.specs.List.{concat, list_all, list_any}
+use Rattle.std.specs.Option.{option_or}
 use Rattle.dt_values.specs.Names.{is_name}
 use Rattle.dt_values.specs.Types.{is_text}
 use Rattle.dt_lines.specs.Lines.{Line, logical_lines}
@@ -8,10 +9,11 @@ use Rattle.dt_fields.specs.declared.rule.Rule.{Rule}
 use Rattle.dt_fields.specs.declared.rule.Rule.TheVariants as rule
 use Rattle.dt_forms.specs.Patterns.{fixed_digit, ignored_digit, number_of}
 
--- what a message names beside the rule: nothing, a token or a name by its bytes, a number, or bits of the word
+-- what a message names beside the rule: nothing, a token of the line or a name by its bytes, a number, or bits of the word
 pub data Detail : Type 0 where
   nothing : Detail
   token : List ℕ → Detail
+  named : List ℕ → Detail
   number : ℕ → Detail
   mask : ℕ → Detail
 
@@ -47,7 +49,7 @@ is_bit b = b == 48 || (b == 49 || (b == 46 || b == 45))
 abbrev pub is_other_token : List ℕ → Bool
 is_other_token text = not (list_all is_bit text)
 
--- N2: the line is no pattern line of bits alone
+-- N2: a group's mark or a definition stands first, or a later token has a byte that stands for no bit
 abbrev pub is_not_built : List ℕ → List (List ℕ) → Bool
 is_not_built first tokens = is_group_mark first || (defines first || list_any is_other_token tokens)
 
@@ -72,9 +74,13 @@ abbrev pub token_faults : ℕ → ℕ → List (List ℕ) → List Broken
 token_faults width count [] = []
 token_faults width count (t ∷ ts) = if nat_lt width (count + length t) then (rule.G8, token t) ∷ [] else token_faults width (count + length t) ts
 
--- the bits of the word that are in none of these masks
+-- binary digits laid from the most significant end of a word
+abbrev pub laid : ℕ → (ℕ → ℕ) → List ℕ → ℕ
+laid width digit bits = number_of digit bits * 2 ^ (width - length bits)
+
+-- the bits of the word that are neither fixed nor ignored
 abbrev pub bits_left : ℕ → List ℕ → ℕ
-bits_left width bits = bit_xor (2 ^ width - 1) (bit_or (number_of fixed_digit bits) (number_of ignored_digit bits))
+bits_left width bits = bit_xor (2 ^ width - 1) (bit_or (laid width fixed_digit bits) (laid width ignored_digit bits))
 
 -- the rules of the whole line
 abbrev pub whole_faults : ℕ → List ℕ → List Broken
@@ -122,15 +128,11 @@ abbrev pub fault_in_lines : ℕ → ℕ → Scope → List Line → Option Fault
 fault_in_lines width file scope [] = None
 fault_in_lines width file scope (l ∷ ls) = fault_or file l.line (faults_of_line width scope l) (fault_in_lines width file (after_line scope l) ls)
 
-abbrev pub or_later : Option Fault → Option Fault → Option Fault
-or_later None later = later
-or_later (Some fault) later = Some fault
-
 -- the first fault of files, of which the first has this place
 abbrev pub fault_in_files : ℕ → ℕ → Scope → List (List ℕ) → Option Fault
 fault_in_files width file scope [] = None
 fault_in_files width file scope (text ∷ texts) =
-    or_later (fault_in_lines width file scope (logical_lines text)) (fault_in_files width (file + 1) (after_lines scope (logical_lines text)) texts)
+    option_or (fault_in_lines width file scope (logical_lines text)) (fault_in_files width (file + 1) (after_lines scope (logical_lines text)) texts)
 
 -- the first rule of the least line that breaks one, in files of which the first has place 0
 abbrev pub first_fault : ℕ → List (List ℕ) → Option Fault

@@ -1,12 +1,13 @@
--- What holds of every model that is read of pattern files, and of every pattern of their flat list.
-use Rattle.std.specs.Prelude.{◌≡◌, ◌≢◌, ◌<◌, ◌≤◌, ◌^◌, ◌⊎◌, ℕ, List, length, get_or, map, bit_and, All, AllPairs}
+-- What holds of every model that is read of pattern files, and of every pattern of their flat list. IsSound leaves out the rules of fields, constants and types, and of references between arguments: a model has no such parts yet.
+use Rattle.std.specs.Prelude.{◌≡◌, ◌≢◌, ◌+◌, ◌<◌, ◌≤◌, ◌^◌, ◌⊎◌, ℕ, max, List, [], ◌∷◌, ◌++◌, length, get_or, map, bit_and, All, AllPairs, IsPermutation}
 use Rattle.dt_values.specs.Names.{IsName}
 use Rattle.dt_values.specs.Widths.{width_bits}
+use Rattle.dt_fields.specs.declared.set.SetDef.{SetDef}
 use Rattle.dt_forms.specs.declared.form.Format.{Format}
 use Rattle.dt_forms.specs.declared.form.Pattern.{Pattern as Kept}
 use Rattle.dt_forms.specs.declared.model.Model.{Model}
 use Rattle.dt_forms.specs.Patterns.{Pattern}
-use Rattle.dt_forms.specs.Trees.{items_of, numbers_of, numbers_from}
+use Rattle.dt_forms.specs.Trees.{Item, one, overlap, exclusive, Cluster, cluster, Items, no_item, item, items_of, numbers_of, numbers_from}
 
 -- fixed and ignored masks of words of so many bits: they share no bit, and what is fixed lies in its mask
 pub record AreMasks (width fixed_bits fixed_mask ignored : ℕ) : Type 0 where
@@ -21,13 +22,62 @@ HasMasks width p = AreMasks width p.fixed_bits p.fixed_mask p.ignored
 abbrev pub FormatHasMasks : ℕ → Format → Type 0
 FormatHasMasks width f = AreMasks width f.fixed_bits f.fixed_mask f.ignored
 
--- a place in the files comes before another
+-- a place in the files: a file by its number among all files, from 0, and a line
+pub record Place : Type 0 where
+  pub file : ℕ
+  pub line : ℕ
+
+-- a place comes before another: in an earlier file, or in the same file on an earlier line
+abbrev pub IsEarlier : Place → Place → Type 0
+IsEarlier a b = (a.file < b.file) ⊎ ((a.file ≡ b.file) × (a.line < b.line))
+
+-- the place of a pattern's line
+abbrev pub place_of : Kept → Place
+place_of p = record { file = p.file; line = p.line }
+
+-- a pattern stands before another
 abbrev pub IsBefore : Kept → Kept → Type 0
-IsBefore p q = (p.file < q.file) ⊎ ((p.file ≡ q.file) × (p.line < q.line))
+IsBefore p q = IsEarlier (place_of p) (place_of q)
+
+-- the places of entries, from left to right: that of a pattern by its number, and a group's own before those of its entries
+abbrev mutual
+  pub item_places : List Kept → Item → List Place
+  item_places patterns (one n) = get_or (map place_of patterns) n (record { file = 0; line = 0 }) ∷ []
+  item_places patterns (overlap c) = cluster_places patterns c
+  item_places patterns (exclusive c) = cluster_places patterns c
+
+  pub cluster_places : List Kept → Cluster → List Place
+  cluster_places patterns (cluster file line is) = record { file = file; line = line } ∷ places_of patterns is
+
+  pub places_of : List Kept → Items → List Place
+  places_of patterns no_item = []
+  places_of patterns (item i is) = item_places patterns i ++ places_of patterns is
+
+-- how deep groups nest: a pattern has no depth, a group one more than the entries in it, and entries that of the deepest
+abbrev mutual
+  pub item_depth : Item → ℕ
+  item_depth (one n) = 0
+  item_depth (overlap c) = cluster_depth c
+  item_depth (exclusive c) = cluster_depth c
+
+  pub cluster_depth : Cluster → ℕ
+  cluster_depth (cluster file line is) = depth is + 1
+
+  pub depth : Items → ℕ
+  depth no_item = 0
+  depth (item i is) = max (item_depth i) (depth is)
 
 -- the number of a pattern's set
 abbrev pub set_number : List Format → Kept → ℕ
 set_number formats p = get_or (map (λ f. f.set) formats) p.format 0
+
+-- the names of the arguments of a pattern's set
+abbrev pub argument_names : List SetDef → List Format → Kept → List (List ℕ)
+argument_names sets formats p = map (λ m. m.name) (get_or (map (λ s. s.members) sets) (set_number formats p) [])
+
+-- the names that a pattern gives a value: those of its format, then its own
+abbrev pub given_names : List Format → Kept → List (List ℕ)
+given_names formats p = map (λ v. v.0) (get_or (map (λ f. f.values) formats) p.format [] ++ p.values)
 
 pub record IsSound (model : Model) : Type 0 where
   pub masks : All (HasMasks (width_bits model.width)) model.patterns
@@ -37,11 +87,16 @@ pub record IsSound (model : Model) : Type 0 where
   pub pattern_numbers : All (λ n. n < length model.patterns) (numbers_of (items_of model.entries))
   pub each_once : numbers_of (items_of model.entries) ≡ numbers_from 0 (length model.patterns)
   pub few : length model.patterns ≤ 8192
+  pub few_arguments : All (λ s. length s.members ≤ 32) model.sets
+  pub nested : depth (items_of model.entries) ≤ 16
   pub places : AllPairs IsBefore model.patterns
   pub whole_words : All (λ p. p.bits ≡ width_bits model.width) model.patterns
   pub set_names : AllPairs (λ s t. s.name ≢ t.name) model.sets
   pub format_names : AllPairs (λ f g. f.name ≢ g.name) model.formats
   pub one_set : AllPairs (λ p q. p.name ≡ q.name → set_number model.formats p ≡ set_number model.formats q) model.patterns
+  pub different_arguments : All (λ s. AllPairs (λ a b. a.name ≢ b.name) s.members) model.sets
+  pub values : All (λ p. IsPermutation (given_names model.formats p) (argument_names model.sets model.formats p)) model.patterns
+  pub entry_places : AllPairs IsEarlier (places_of model.patterns (items_of model.entries))
 
 -- a pattern of words of so many bits, of files that break no rule of lines: a name, a mask and bits below 2 ^ width, no bit outside the mask, and a file and a line that fit in 16 and 32 bits
 pub record IsSoundPattern (width : ℕ) (p : Pattern) : Type 0 where

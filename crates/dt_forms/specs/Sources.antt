@@ -4,7 +4,7 @@ use Rattle.dt_lines.specs.Lines.{logical_lines, physical_lines}
 use Rattle.dt_lines.specs.Spans.{line_seen, AreSpans}
 use Rattle.dt_forms.specs.declared.source.Source.{Source}
 
--- the lines are those of the file's bytes, as the file at this place has them
+-- the lines are those of the file's bytes, as the file at this place has them; the number of the last physical line; a file of at most 4 MiB
 pub record IsSourceAt (place : ℕ) (s : Source) : Type 0 where
   pub lines : map (line_seen s.bytes) s.lines ≡ logical_lines s.bytes
   pub spans : All (λ l. AreSpans (length s.bytes) l.tokens) s.lines

@@ -2,7 +2,6 @@
 use Rattle.std.specs.Prelude.{ℕ, suc, zero, ◌+◌, List, [], ◌∷◌, ◌++◌, length, map}
 use Rattle.dt_forms.specs.declared.entry.Entry.{Entry, fold-Entry}
 use Rattle.dt_forms.specs.declared.entry.Entry.TheOpen.{Entry-F, Group-F}
-use Rattle.dt_forms.specs.declared.entry.Group.{Group, fold-Group}
 use Rattle.dt_forms.specs.Patterns.{Pattern}
 
 -- a pattern by its number in the flat list, a group in braces or brackets; a group has its file, its line and its entries
@@ -34,9 +33,6 @@ cluster_step g = cluster g.file g.line (items_from g.entries.items)
 
 abbrev pub item_of : Entry → Item
 item_of = fold-Entry Item Cluster item_step cluster_step
-
-abbrev pub cluster_of : Group → Cluster
-cluster_of = fold-Group Item Cluster item_step cluster_step
 
 abbrev pub items_of : List Entry → Items
 items_of es = items_from (map item_of es)

@@ -5,7 +5,7 @@ use Rattle.dt_fields.specs.declared.rule.Rule.{Rule}
 use Rattle.dt_fields.specs.declared.rule.Detail.{Detail as Made}
 use Rattle.dt_fields.specs.declared.rule.Detail.TheVariants as details
 use Rattle.dt_forms.specs.Patterns.{Pattern, PatternLine, number_of, fixed_digit, one_digit, ignored_digit}
-use Rattle.dt_forms.specs.Rules.{Broken, Detail, nothing, token, number, mask, Fault, first}
+use Rattle.dt_forms.specs.Rules.{Broken, Detail, nothing, token, named, number, mask, Fault, first}
 use Rattle.dt_forms.specs.declared.form.Pattern.{Pattern as Kept}
 use Rattle.dt_forms.specs.declared.source.Source.{Source}
 use Rattle.dt_forms.specs.declared.fault.ModelFault.{ModelFault}
@@ -26,7 +26,7 @@ kept_pattern p = record { name = p.name; file = p.file; line = p.line; format = 
 abbrev pub detail_seen : List ℕ → Made → Detail
 detail_seen bytes details.None = nothing
 detail_seen bytes (details.Text span) = token (text_at bytes span)
-detail_seen bytes (details.Named name) = token name
+detail_seen bytes (details.Named name) = named name
 detail_seen bytes (details.Number n) = number n
 detail_seen bytes (details.Mask m) = mask m
 

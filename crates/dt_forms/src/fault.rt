@@ -15,7 +15,7 @@ pub struct Fault {
 /// Why files have no model.
 #[derive(Clone, Copy, Debug, PartialEq, Eq)]
 pub enum ModelFault {
-    /// The first rule that the least line breaks of those that break one.
+    /// A line breaks a rule: this is the first rule that the least such line breaks.
     Broken(Fault),
     NoMemory,
 }

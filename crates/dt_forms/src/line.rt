@@ -3,7 +3,6 @@
 ghost use Rattle.std.specs.Prelude.{◌≡◌, ℕ, List, [], length, map, All, IfOk, IfErr, OnOk, Some, ◌∷◌};
 ghost use Rattle.std.specs.List.{concat, list_all, list_any};
 ghost use Rattle.std.specs.Option.{option_map};
-ghost use Rattle.dt_values.specs.Names.{is_name};
 ghost use Rattle.dt_values.specs.Widths.{width_bits};
 ghost use Rattle.dt_lines.specs.Spans.{IsWithin, text_at};
 ghost use Rattle.dt_forms.specs.Patterns.{fixed_digit, ignored_digit, number_of, one_digit, pattern_in};
@@ -118,7 +117,7 @@ fn name_of(bytes: &[u8], place: Place, first: Span, tokens: &[Span]) -> Result<N
     Ok(name)
 }
 
-// Whether the line isn't a pattern line of bits alone.
+// Whether the line has a form that isn't built.
 fn is_not_built(bytes: &[u8], first: &[u8], tokens: &[Span]) -> bool
     requires { All (IsWithin (length bytes.now)) tokens.now }
     ensures { result ≡ is_not_built first.now (map (text_at bytes.now) tokens.now) }

@@ -33,8 +33,8 @@ pub const MOST_PATTERNS: usize = 8192;
 /// The most files of one decoder.
 pub const MOST_FILES: usize = 16;
 
-/// The model of these files, each with the lines that were read of it as the file at its place, from 0.
-/// Broken has the first rule that the least line breaks, by its file and then its number.
+/// The model of these files, each read as the source at its place, from 0. Broken has a fault of the least line that
+/// breaks a rule, by its file and then its number: the first rule that this line breaks.
 pub fn read_model(alloc: Global, options: &Options, files: &[Source]) -> Result<Model, ModelFault>
     requires fixed { options.now.variable ≡ false }
     requires decode { IsOptionName options.now.decode }

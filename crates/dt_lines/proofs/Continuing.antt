@@ -1,11 +1,11 @@
 -- How a logical line goes on over physical lines.
-use Rattle.std.proofs.Common.{◌≡◌, ℕ, ◌+◌, ◌-◌, ◌<◌, ◌≤◌, List, [], ◌∷◌, ◌++◌, length, map, take, drop, get_or, true, false, refl, ap, sym, ◌∙◌}
+use Rattle.std.proofs.Common.{◌≡◌, ℕ, ◌+◌, ◌-◌, ◌<◌, ◌≤◌, List, [], ◌∷◌, ◌++◌, length, map, take, drop, get_or, true, false, refl, ap, sym, ◌∙◌, append-nil, arith}
 use Rattle.std.specs.Prelude.{All, if◌then◌else◌}
 use Rattle.std.specs.List.{between}
 use Rattle.std.proofs.lemmas.List.{map-append, length-map, take-map, drop_all}
-use Rattle.dt_lines.specs.Lines.{Line, is_newline, is_blank, indentation, line_tokens, is_backslash, ends_in_backslash, without_last, if_tokens, end_or_go_on, lines_from, continued, physical_lines}
+use Rattle.dt_lines.specs.Lines.{Line, is_newline, is_backslash, ends_in_backslash, without_last, if_tokens, end_or_go_on, lines_from, continued, physical_lines}
 use Rattle.dt_lines.specs.Spans.{text_at}
-use Rattle.dt_lines.specs.Gathering.{gathered_line, lines_after, is_skipped, joined_line}
+use Rattle.dt_lines.specs.Gathering.{gathered_line, lines_after}
 use Rattle.dt_lines.specs.declared.line.Span.{Span}
 use Rattle.dt_lines.specs.declared.gather.Gathered.{Gathered}
 use Rattle.dt_lines.proofs.Pieces.{physical_more}
@@ -39,31 +39,6 @@ pub goes_on : (line : Line) (number : ℕ) (texts : List (List ℕ)) → ends_in
     → lines_after (record line { tokens = without_last line.tokens }) number texts ≡ end_or_go_on line (lines_from number texts) (λ longer. continued longer number texts)
 goes_on line number texts e = sym (ap (λ b. if b then lines_after (record line { tokens = without_last line.tokens }) number texts else line ∷ lines_from number texts) e)
 
--- without one
-pub ends : (line : Line) (number : ℕ) (texts : List (List ℕ)) → ends_in_backslash line.tokens ≡ false
-    → end_or_go_on line (lines_from number texts) (λ longer. continued longer number texts) ≡ line ∷ lines_from number texts
-ends line number texts e = ap (λ b. if b then lines_after (record line { tokens = without_last line.tokens }) number texts else line ∷ lines_from number texts) e
-
-skipped : (first indent : ℕ) (tokens : List (List ℕ)) (number : ℕ) (text : List ℕ) (texts : List (List ℕ)) → if_tokens tokens false (is_blank text) ≡ true
-    → lines_from (number + 1) texts ≡ lines_after (record { line = first; indent = indent; tokens = tokens }) number (text ∷ texts)
-skipped first indent [] number text texts e = sym (ap (λ b. if b then lines_from (number + 1) texts else end_or_go_on (record { line = number; indent = indentation text; tokens = line_tokens text }) (lines_from (number + 1) texts) (λ line. continued line (number + 1) texts)) e)
-skipped first indent (token ∷ more) number text texts e = cc
-
-joined : (first indent : ℕ) (tokens : List (List ℕ)) (number : ℕ) (text : List ℕ) (texts : List (List ℕ)) → if_tokens tokens false (is_blank text) ≡ false
-    → end_or_go_on (joined_line (record { line = first; indent = indent; tokens = tokens }) number text) (lines_from (number + 1) texts) (λ line. continued line (number + 1) texts) ≡ lines_after (record { line = first; indent = indent; tokens = tokens }) number (text ∷ texts)
-joined first indent [] number text texts e = sym (ap (λ b. if b then lines_from (number + 1) texts else end_or_go_on (record { line = number; indent = indentation text; tokens = line_tokens text }) (lines_from (number + 1) texts) (λ line. continued line (number + 1) texts)) e)
-joined first indent (token ∷ more) number text texts e = refl
-
--- a blank line where nothing is gathered
-pub line_skipped : (line : Line) (number : ℕ) (text : List ℕ) (texts : List (List ℕ)) → is_skipped line text ≡ true
-    → lines_from (number + 1) texts ≡ lines_after line number (text ∷ texts)
-line_skipped line number text texts e = skipped line.line line.indent line.tokens number text texts e
-
--- any other line
-pub line_joined : (line : Line) (number : ℕ) (text : List ℕ) (texts : List (List ℕ)) → is_skipped line text ≡ false
-    → end_or_go_on (joined_line line number text) (lines_from (number + 1) texts) (λ longer. continued longer (number + 1) texts) ≡ lines_after line number (text ∷ texts)
-line_joined line number text texts e = joined line.line line.indent line.tokens number text texts e
-
 -- one physical line more
 pub line_more : (bytes : List ℕ) (at end number : ℕ) (before after whole : List Line) (shorter longer : Line) → at ≤ end → end ≤ length bytes → at < length bytes
     → All (λ x. is_newline x ≡ false) (between at end bytes) → (end < length bytes → get_or bytes end 0 ≡ 10)
@@ -74,8 +49,30 @@ line_more bytes at end number before after whole shorter longer h k l none ends 
     step (physical_lines (drop (end + 1) bytes))
     ∙ ap (λ texts. before ++ lines_after shorter number texts) (sym (physical_more bytes at end h k l none ends)) ∙ all
 
--- no physical line more
-pub lines_last : (bytes : List ℕ) (at number : ℕ) (before after whole : List Line) (line : Line) → length bytes ≤ at
-    → after ≡ before ++ lines_after line number [] → before ++ lines_after line number (physical_lines (drop at bytes)) ≡ whole → after ≡ whole
-lines_last bytes at number before after whole line h is all =
-    is ∙ ap (λ ys. before ++ lines_after line number (physical_lines ys)) (sym (drop_all at bytes h)) ∙ all
+some_tokens : {A : Type 0} (tokens : List (List ℕ)) (some none : A) → 0 < length tokens → if_tokens tokens some none ≡ some
+some_tokens [] some none h = absurd (omega arith)
+some_tokens (token ∷ more) some none h = refl
+
+no_tokens : {A : Type 0} (tokens : List (List ℕ)) (some none : A) → length tokens ≡ 0 → if_tokens tokens some none ≡ none
+no_tokens [] some none h = refl
+no_tokens (token ∷ more) some none h = absurd (omega arith)
+
+-- no physical line more, where nothing is gathered
+pub lines_last : (bytes : List ℕ) (at number : ℕ) (before whole : List Line) (gathered : Gathered) → length bytes ≤ at → length gathered.tokens.items ≡ 0
+    → before ++ lines_after (gathered_line bytes gathered) number (physical_lines (drop at bytes)) ≡ whole → before ≡ whole
+lines_last bytes at number before whole gathered h none all =
+    let tokens : List (List ℕ) = map (text_at bytes) gathered.tokens.items in
+    let line : Line = gathered_line bytes gathered in
+    sym (append-nil before)
+    ∙ ap (λ lines. before ++ lines) (sym (no_tokens tokens (line ∷ []) [] (length-map gathered.tokens.items (text_at bytes) ∙ none)))
+    ∙ ap (λ ys. before ++ lines_after line number (physical_lines ys)) (sym (drop_all at bytes h)) ∙ all
+
+-- no physical line more: a line that is gathered ends
+pub line_last : (bytes : List ℕ) (at number : ℕ) (before after whole : List Line) (gathered : Gathered) → length bytes ≤ at → 0 < length gathered.tokens.items
+    → after ≡ before ++ gathered_line bytes gathered ∷ [] → before ++ lines_after (gathered_line bytes gathered) number (physical_lines (drop at bytes)) ≡ whole → after ≡ whole
+line_last bytes at number before after whole gathered h some is all =
+    let tokens : List (List ℕ) = map (text_at bytes) gathered.tokens.items in
+    let line : Line = gathered_line bytes gathered in
+    is
+    ∙ ap (λ lines. before ++ lines) (sym (some_tokens tokens (line ∷ []) [] (omega (arith, length-map gathered.tokens.items (text_at bytes)))))
+    ∙ ap (λ ys. before ++ lines_after line number (physical_lines ys)) (sym (drop_all at bytes h)) ∙ all

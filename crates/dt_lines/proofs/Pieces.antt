@@ -1,7 +1,7 @@
 -- Pieces of a text between its white space, and of a file between its LFs, one more at a time.
 use Rattle.std.proofs.Common.{◌≡◌, ℕ, ◌+◌, ◌-◌, ◌<◌, ◌≤◌, List, [], ◌∷◌, ◌++◌, length, get_or, take, drop, Bool, true, false, refl, ap, sym, ◌∙◌, arith, append_assoc, append-nil, inl, inr, subst}
 use Rattle.std.specs.Prelude.{flat_map, All}
-use Rattle.std.specs.List.{between, slice_split}
+use Rattle.std.specs.List.{between, position_or_len, slice_split}
 use Rattle.std.proofs.Math.Seq.{take-add}
 use Rattle.std.proofs.lemmas.List.{drop-drop, drop_more, drop_all}
 use Rattle.std.proofs.lemmas.List.Edits.{length-between, between_more, between_none}
@@ -9,7 +9,8 @@ use Rattle.std.proofs.lemmas.List.Elements.{All-same, All-push, All-nil}
 use Rattle.std.proofs.lemmas.List.Splits.{slice_split_at, slice_split_none, length-slice_split}
 use Rattle.std.proofs.lemmas.Bool.{cases_lt}
 use Rattle.std.proofs.lemmas.Slice.{between_to_end}
-use Rattle.dt_lines.specs.Lines.{is_newline, is_white, not_empty, tokens, without_empty_end, physical_lines}
+use Rattle.std.proofs.lemmas.Grind.{common_steps}
+use Rattle.dt_lines.specs.Lines.{is_newline, is_white, is_comment_mark, before_comment, not_empty, tokens, without_empty_end, physical_lines}
 
 -- a part of a list, cut at an element
 pub between_cut : {X : Type 0} → (xs : List X) (s i e : ℕ) (d : X) → s ≤ i → i < e → e ≤ length xs → between s e xs ≡ between s i xs ++ (get_or xs i d ∷ between (i + 1) e xs)
@@ -102,3 +103,10 @@ tokens_end bytes s i e before after whole h k none all is =
     let P : ℕ → Type 0 = λ n. All (λ x. is_white x ≡ false) (between s n bytes) in
     let same : i ≡ e = omega arith in
     is ∙ ap (λ ts. before ++ ts) (sym (tokens_last (between s e bytes) (subst P same none))) ∙ all
+
+-- what stands before the comment of a line
+pub before_comment_at : (bytes : List ℕ) (from to n : ℕ) → from ≤ to → to ≤ length bytes → n ≤ length (between from to bytes) → n ≡ position_or_len is_comment_mark (between from to bytes)
+    → between from (from + n) bytes ≡ before_comment (between from to bytes)
+before_comment_at bytes from to n h k l e =
+    let at : between from (from + n) bytes ≡ take n (between from to bytes) = grind (arith, common_steps) in
+    at ∙ ap (λ m. take m (between from to bytes)) e

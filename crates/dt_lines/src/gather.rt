@@ -1,13 +1,13 @@
 //! Gathers a logical line from the physical lines that it goes over.
 
-ghost use Rattle.std.specs.Prelude.{◌≡◌, ◌+◌, ◌-◌, ◌≤◌, ℕ, List, [], ◌∷◌, ◌++◌, length, map, take, All, IfOk, OnOk};
+ghost use Rattle.std.specs.Prelude.{◌≡◌, ◌+◌, ◌-◌, ℕ, List, [], ◌∷◌, ◌++◌, length, map, take, IfOk, OnOk};
 ghost use Rattle.std.specs.List.{between};
 ghost use Rattle.dt_lines.specs.Lines.{is_blank, is_backslash, ends_in_backslash, end_or_go_on, lines_from, continued};
 ghost use Rattle.dt_lines.specs.Spans.{text_at, line_seen, AreSpans};
+ghost use Rattle.dt_lines.specs.SoFar.{AreSpansTo, IsNext, AreLinesOf};
 ghost use Rattle.dt_lines.specs.Gathering.{gathered_line, is_skipped, joined_line, lines_after};
 
 use crate::line::{Logical, Span, Tokens};
-use crate::scan::LARGEST_FILE;
 use crate::token::{indentation, is_white, push_line_tokens};
 use std::alloc::{AllocError, Global};
 
@@ -17,7 +17,7 @@ use std::alloc::{AllocError, Global};
 pub(crate) struct Gathered {
     line: u32,
     indent: u32,
-    tokens: Vec<Span>,
+    pub(crate) tokens: Vec<Span>,
 }
 
 // Where a physical line stands.
@@ -48,18 +48,11 @@ pub(crate) fn next_line(
     from: usize,
     to: usize,
 ) -> Result<Gathered, AllocError>
-    requires ordered { from ≤ to }
-    requires within { to ≤ length bytes.now }
-    requires small { length bytes.now ≤ LARGEST_FILE }
-    requires spans { All (λ l. AreSpans (length bytes.now) l.tokens) lines.old.items }
-    requires file { All (λ l. l.file ≡ place.file) lines.old.items }
-    requires gathered { AreSpans (length bytes.now) gathered.tokens.items }
-    requires before { All (λ s. s.end ≤ from) gathered.tokens.items }
+    requires next { IsNext (length bytes.now) from to gathered.tokens.items }
+    requires file { AreLinesOf place.file (length bytes.now) lines.old.items }
     ensures lines { IfOk result (λ g. (texts : List (List ℕ)) → map (line_seen bytes.now) lines.new.items ++ lines_after (gathered_line bytes.now g) (place.line + 1) texts ≡ map (line_seen bytes.now) lines.old.items ++ lines_after (gathered_line bytes.now gathered) place.line (between from to bytes.now ∷ texts)) }
-    ensures spans { OnOk result (All (λ l. AreSpans (length bytes.now) l.tokens) lines.new.items) }
-    ensures file { OnOk result (All (λ l. l.file ≡ place.file) lines.new.items) }
-    ensures gathered { IfOk result (λ g. AreSpans (length bytes.now) g.tokens.items) }
-    ensures before { IfOk result (λ g. All (λ s. s.end ≤ to) g.tokens.items) }
+    ensures file { OnOk result (AreLinesOf place.file (length bytes.now) lines.new.items) }
+    ensures spans { IfOk result (λ g. AreSpansTo (length bytes.now) to g.tokens.items) }
 {
     if is_skipped(&gathered, &bytes[from..to]) {
         return Ok(nothing(alloc));
@@ -76,14 +69,9 @@ fn joined(
     from: usize,
     to: usize,
 ) -> Result<Gathered, AllocError>
-    requires ordered { from ≤ to }
-    requires within { to ≤ length bytes.now }
-    requires small { length bytes.now ≤ LARGEST_FILE }
-    requires spans { AreSpans (length bytes.now) gathered.tokens.items }
-    requires before { All (λ s. s.end ≤ from) gathered.tokens.items }
+    requires { IsNext (length bytes.now) from to gathered.tokens.items }
     ensures line { IfOk result (λ g. gathered_line bytes.now g ≡ joined_line (gathered_line bytes.now gathered) line (between from to bytes.now)) }
-    ensures spans { IfOk result (λ g. AreSpans (length bytes.now) g.tokens.items) }
-    ensures before { IfOk result (λ g. All (λ s. s.end ≤ to) g.tokens.items) }
+    ensures spans { IfOk result (λ g. AreSpansTo (length bytes.now) to g.tokens.items) }
 {
     let first = gathered.line;
     let indent = gathered.indent;
@@ -112,19 +100,16 @@ fn end_or_go_on(
     file: u16,
     bytes: &[u8],
 ) -> Result<Gathered, AllocError>
-    requires spans { All (λ l. AreSpans (length bytes.now) l.tokens) lines.old.items }
-    requires file { All (λ l. l.file ≡ file) lines.old.items }
-    requires gathered { AreSpans (length bytes.now) gathered.tokens.items }
+    requires spans { AreSpans (length bytes.now) gathered.tokens.items }
+    requires file { AreLinesOf file (length bytes.now) lines.old.items }
     ensures lines { IfOk result (λ g. (number : ℕ) → (texts : List (List ℕ)) → map (line_seen bytes.now) lines.new.items ++ lines_after (gathered_line bytes.now g) number texts ≡ map (line_seen bytes.now) lines.old.items ++ end_or_go_on (gathered_line bytes.now gathered) (lines_from number texts) (λ line. continued line number texts)) }
-    ensures spans { OnOk result (All (λ l. AreSpans (length bytes.now) l.tokens) lines.new.items) }
-    ensures file { OnOk result (All (λ l. l.file ≡ file) lines.new.items) }
-    ensures gathered { IfOk result (λ g. AreSpans (length bytes.now) g.tokens.items) }
-    ensures before { IfOk result (λ g. (place : ℕ) → All (λ s. s.end ≤ place) gathered.tokens.items → All (λ s. s.end ≤ place) g.tokens.items) }
+    ensures file { OnOk result (AreLinesOf file (length bytes.now) lines.new.items) }
+    ensures spans { IfOk result (λ g. (place : ℕ) → AreSpansTo (length bytes.now) place gathered.tokens.items → AreSpansTo (length bytes.now) place g.tokens.items) }
 {
     if ends_in_backslash(bytes, gathered.tokens.as_slice()) {
         return Ok(without_last(gathered));
     }
-    end(lines, gathered, file, bytes)?;
+    end_line(lines, gathered, file)?;
     Ok(nothing(alloc))
 }
 
@@ -148,18 +133,13 @@ fn without_last(gathered: Gathered) -> Gathered
 }
 
 // The gathered line, behind those before it.
-fn end(
+pub(crate) fn end_line(
     lines: &mut Vec<Logical>,
     gathered: Gathered,
     file: u16,
-    bytes: &[u8],
 ) -> Result<(), AllocError>
-    requires spans { All (λ l. AreSpans (length bytes.now) l.tokens) lines.old.items }
-    requires file { All (λ l. l.file ≡ file) lines.old.items }
-    requires gathered { AreSpans (length bytes.now) gathered.tokens.items }
-    ensures lines { OnOk result (map (line_seen bytes.now) lines.new.items ≡ map (line_seen bytes.now) lines.old.items ++ gathered_line bytes.now gathered ∷ []) }
-    ensures spans { OnOk result (All (λ l. AreSpans (length bytes.now) l.tokens) lines.new.items) }
-    ensures file { OnOk result (All (λ l. l.file ≡ file) lines.new.items) }
+    ensures lines { OnOk result ((bytes : List ℕ) → map (line_seen bytes) lines.new.items ≡ map (line_seen bytes) lines.old.items ++ gathered_line bytes gathered ∷ []) }
+    ensures file { OnOk result ((length : ℕ) → AreSpans length gathered.tokens.items → AreLinesOf file length lines.old.items → AreLinesOf file length lines.new.items) }
 {
     let Gathered {
         line,
@@ -172,27 +152,6 @@ fn end(
         indent,
         tokens: Tokens::of(tokens),
     })?;
-    Ok(())
-}
-
-// At the end of the file a line that goes on ends.
-pub(crate) fn close(
-    lines: &mut Vec<Logical>,
-    gathered: Gathered,
-    file: u16,
-    bytes: &[u8],
-) -> Result<(), AllocError>
-    requires spans { All (λ l. AreSpans (length bytes.now) l.tokens) lines.old.items }
-    requires file { All (λ l. l.file ≡ file) lines.old.items }
-    requires gathered { AreSpans (length bytes.now) gathered.tokens.items }
-    ensures lines { OnOk result ((number : ℕ) → map (line_seen bytes.now) lines.new.items ≡ map (line_seen bytes.now) lines.old.items ++ lines_after (gathered_line bytes.now gathered) number []) }
-    ensures spans { OnOk result (All (λ l. AreSpans (length bytes.now) l.tokens) lines.new.items) }
-    ensures file { OnOk result (All (λ l. l.file ≡ file) lines.new.items) }
-{
-    if gathered.tokens.is_empty() {
-        return Ok(());
-    }
-    end(lines, gathered, file, bytes)?;
     Ok(())
 }
 
@@ -215,7 +174,7 @@ fn ends_in_backslash(bytes: &[u8], spans: &[Span]) -> bool
     ensures { result ≡ ends_in_backslash (map (text_at bytes.now) spans.now) }
 {
     match spans.split_last() {
-        Some((last, _)) => is_backslash(&bytes[last.start as usize..last.end as usize]),
+        Some((last, _)) => is_backslash(last.text(bytes)),
         None => false,
     }
 }

@@ -3,10 +3,11 @@
 ghost use Rattle.std.specs.Prelude.{◌≡◌, ◌↔◌, ◌≤◌, ℕ, length, map, All, Some, None, IfOk, OnOk, IsErrOf};
 ghost use Rattle.dt_lines.specs.Lines.{logical_lines};
 ghost use Rattle.dt_lines.specs.Spans.{line_seen, AreSpans};
+ghost use Rattle.dt_lines.specs.SoFar.{AreLinesOf};
 ghost use Rattle.dt_lines.specs.Faults.{line_fault, too_many_lines, long_name};
 
 use crate::fault::{LineFault, first_fault};
-use crate::gather::{Place, close, next_line, nothing};
+use crate::gather::{Place, end_line, next_line, nothing};
 use crate::line::Logical;
 use crate::physical::line_end;
 use std::alloc::{AllocError, Global};
@@ -38,8 +39,7 @@ pub fn logical(alloc: Global, file: u16, bytes: &[u8]) -> Result<Vec<Logical>, L
 fn read_lines(alloc: Global, file: u16, bytes: &[u8]) -> Result<Vec<Logical>, AllocError>
     requires { length bytes.now ≤ LARGEST_FILE }
     ensures lines { IfOk result (λ lines. map (line_seen bytes.now) lines.items ≡ logical_lines bytes.now) }
-    ensures spans { IfOk result (λ lines. All (λ l. AreSpans (length bytes.now) l.tokens) lines.items) }
-    ensures file { IfOk result (λ lines. All (λ l. l.file ≡ file) lines.items) }
+    ensures file { IfOk result (λ lines. AreLinesOf file (length bytes.now) lines.items) }
 {
     let mut lines = Vec::new(alloc);
     let mut gathered = nothing(alloc);
@@ -52,6 +52,10 @@ fn read_lines(alloc: Global, file: u16, bytes: &[u8]) -> Result<Vec<Logical>, Al
         gathered = next_line(alloc, &mut lines, gathered, place, bytes, at, end)?;
         at = end + 1;
     }
-    close(&mut lines, gathered, file, bytes)?;
+    if gathered.tokens.is_empty() {
+        return Ok(lines);
+    }
+    // A line that goes on ends at the end of the file.
+    end_line(&mut lines, gathered, file)?;
     Ok(lines)
 }

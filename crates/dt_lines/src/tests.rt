@@ -1,3 +1,5 @@
+//! The lines of small files, and what keeps a file from being read.
+
 use crate::scan::{LARGEST_FILE, logical};
 use crate::{LineFault, Logical, Span, Tokens, line_count};
 use std::alloc::{AllocError, Global};

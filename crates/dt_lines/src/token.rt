@@ -1,9 +1,10 @@
 //! The tokens, the comment and the indentation of a physical line.
 
-ghost use Rattle.std.specs.Prelude.{◌≡◌, ◌+◌, ◌*◌, ◌≤◌, ◌++◌, length, map, All, OnOk};
+ghost use Rattle.std.specs.Prelude.{◌≡◌, ◌+◌, ◌*◌, ◌≤◌, ◌++◌, length, map, OnOk};
 ghost use Rattle.std.specs.List.{between, position_or_len};
-ghost use Rattle.dt_lines.specs.Lines.{indentation, is_comment_mark, is_white, line_tokens, next_column, not_empty, tokens};
-ghost use Rattle.dt_lines.specs.Spans.{text_at, AreSpans};
+ghost use Rattle.dt_lines.specs.Lines.{indentation, is_comment_mark, is_white, line_tokens, next_column, not_empty};
+ghost use Rattle.dt_lines.specs.Spans.{text_at};
+ghost use Rattle.dt_lines.specs.SoFar.{AreSpansTo, IsNext};
 
 use crate::line::Span;
 use crate::scan::LARGEST_FILE;
@@ -36,45 +37,20 @@ pub(crate) fn push_line_tokens(
     from: usize,
     to: usize,
 ) -> Result<(), AllocError>
-    requires ordered { from ≤ to }
-    requires within { to ≤ length bytes.now }
-    requires small { length bytes.now ≤ LARGEST_FILE }
-    requires spans { AreSpans (length bytes.now) spans.old.items }
-    requires before { All (λ s. s.end ≤ from) spans.old.items }
+    requires { IsNext (length bytes.now) from to spans.old.items }
     ensures tokens { OnOk result (map (text_at bytes.now) spans.new.items ≡ map (text_at bytes.now) spans.old.items ++ line_tokens (between from to bytes.now)) }
-    ensures spans { OnOk result (AreSpans (length bytes.now) spans.new.items) }
-    ensures before { OnOk result (All (λ s. s.end ≤ to) spans.new.items) }
+    ensures spans { OnOk result (AreSpansTo (length bytes.now) to spans.new.items) }
 {
-    let bare = from + comment_start(&bytes[from..to]);
-    push_tokens(spans, bytes, from, bare)?;
-    Ok(())
-}
-
-// The places of what lies between the white space of a text, behind those before them.
-fn push_tokens(
-    spans: &mut Vec<Span>,
-    bytes: &[u8],
-    from: usize,
-    to: usize,
-) -> Result<(), AllocError>
-    requires ordered { from ≤ to }
-    requires within { to ≤ length bytes.now }
-    requires small { length bytes.now ≤ LARGEST_FILE }
-    requires spans { AreSpans (length bytes.now) spans.old.items }
-    requires before { All (λ s. s.end ≤ from) spans.old.items }
-    ensures tokens { OnOk result (map (text_at bytes.now) spans.new.items ≡ map (text_at bytes.now) spans.old.items ++ tokens (between from to bytes.now)) }
-    ensures spans { OnOk result (AreSpans (length bytes.now) spans.new.items) }
-    ensures before { OnOk result (All (λ s. s.end ≤ to) spans.new.items) }
-{
+    let end = from + comment_start(&bytes[from..to]);
     let mut start = from;
-    for at in from..to {
+    for at in from..end {
         if !is_white(bytes[at]) {
             continue;
         }
         push_span(spans, bytes, start, at)?;
         start = at + 1;
     }
-    push_span(spans, bytes, start, to)?;
+    push_span(spans, bytes, start, end)?;
     Ok(())
 }
 
@@ -85,14 +61,9 @@ fn push_span(
     start: usize,
     end: usize,
 ) -> Result<(), AllocError>
-    requires ordered { start ≤ end }
-    requires within { end ≤ length bytes.now }
-    requires small { length bytes.now ≤ LARGEST_FILE }
-    requires spans { AreSpans (length bytes.now) spans.old.items }
-    requires before { All (λ s. s.end ≤ start) spans.old.items }
+    requires { IsNext (length bytes.now) start end spans.old.items }
     ensures tokens { OnOk result (map (text_at bytes.now) spans.new.items ≡ map (text_at bytes.now) spans.old.items ++ not_empty (between start end bytes.now)) }
-    ensures spans { OnOk result (AreSpans (length bytes.now) spans.new.items) }
-    ensures before { OnOk result (All (λ s. s.end ≤ end) spans.new.items) }
+    ensures spans { OnOk result (AreSpansTo (length bytes.now) end spans.new.items) }
 {
     if start < end {
         spans.push(Span {

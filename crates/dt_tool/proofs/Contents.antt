@@ -1,8 +1,9 @@
 -- What stops a load is due, for the folder's file and for some content of it.
 use Rattle.std.proofs.Common.{◌≡◌, ℕ, ◌+◌, ◌<◌, List, length, Option, Some, None, refl, ap, sym, subst, arith, replicate, inl, inr}
-use Rattle.std.specs.Prelude.{Result, Ok, Err, Vec, IfSome, IsErrAnd}
+use Rattle.std.specs.Prelude.{Result, Ok, Err, Vec, All, IfSome, IsErrAnd}
 use Rattle.std.specs.FinMap as files_by_name
 use Rattle.std.proofs.lemmas.List.{length-replicate}
+use Rattle.std.proofs.lemmas.List.Elements.{All-replicate}
 use Rattle.dt_io.specs.Files.{Files, Held}
 use Rattle.dt_tool.specs.Words.{file_named}
 use Rattle.dt_tool.specs.Messages as said
@@ -54,10 +55,11 @@ stop_answers A words file told Missed Failed stop result is named stops =
 -- some bytes of this length
 pub record OfLength (n : ℕ) : Type 0 where
   pub bytes : List ℕ
+  pub are_bytes : All (λ b. b < 256) bytes
   pub length : length bytes ≡ n
 
 of_length : (n : ℕ) → OfLength n
-of_length n = record { bytes = replicate n 0; length = length-replicate n 0 }
+of_length n = record { bytes = replicate n 0; are_bytes = All-replicate (λ b. b < 256) n 0 (omega arith); length = length-replicate n 0 }
 
 -- and is due for some content, told or not
 pub stopped_for_some : (A : Type 0) (words : List (List ℕ)) (file : List ℕ) (told : Option Files) (Missed Failed : Type 0) (stop : Stop) → file_named words ≡ Some file → StopsLoad told file Missed Failed stop
@@ -67,13 +69,13 @@ stopped_for_some A words file told Missed Failed (stops.ReadFault message) named
 stopped_for_some A words file told Missed Failed (stops.Refused message) named is =
     let long : OfLength (limit + 1) = of_length (limit + 1) in
     let size : length long.bytes ≡ limit + 1 = long.length in
-    record { file = file; bytes = long.bytes; named = named; due = large_due file long.bytes message.items (omega arith) is.0 }
+    record { file = file; bytes = long.bytes; are_bytes = long.are_bytes; named = named; due = large_due file long.bytes message.items (omega arith) is.0 }
 stopped_for_some A words file told Missed Failed stops.NoMemory named is = tt
 
 -- what is made of a file's bytes is due for them
-pub made_for_some : {A : Type 0} (words : List (List ℕ)) (file bytes : List ℕ) (result : Result (Vec ℕ A) Stop) → file_named words ≡ Some file → AnswersDue ⊥ result (IsDueOf file bytes) → IsForSome result words
-made_for_some words file bytes (Ok text) named is = record { file = file; bytes = bytes; named = named; due = is }
-made_for_some words file bytes (Err stops.Usage) named is = tt
-made_for_some words file bytes (Err (stops.ReadFault message)) named is = tt
-made_for_some words file bytes (Err (stops.Refused message)) named is = record { file = file; bytes = bytes; named = named; due = is }
-made_for_some words file bytes (Err stops.NoMemory) named is = tt
+pub made_for_some : {A : Type 0} (words : List (List ℕ)) (file bytes : List ℕ) (result : Result (Vec ℕ A) Stop) → file_named words ≡ Some file → All (λ b. b < 256) bytes → AnswersDue ⊥ result (IsDueOf file bytes) → IsForSome result words
+made_for_some words file bytes (Ok text) named small is = record { file = file; bytes = bytes; are_bytes = small; named = named; due = is }
+made_for_some words file bytes (Err stops.Usage) named small is = tt
+made_for_some words file bytes (Err (stops.ReadFault message)) named small is = tt
+made_for_some words file bytes (Err (stops.Refused message)) named small is = record { file = file; bytes = bytes; are_bytes = small; named = named; due = is }
+made_for_some words file bytes (Err stops.NoMemory) named small is = tt

@@ -9,12 +9,12 @@ use Rattle.dt_tool.specs.Sound.{AreSound}
 use Rattle.dt_tool.specs.Agrees.{AreUnderMasks}
 use Rattle.dt_tool.specs.Hosts.{script}
 use Rattle.dt_tool.specs.Decoders.{IsDecoder}
-use Rattle.dt_tool.specs.Verdicts.{patterns_of, width}
+use Rattle.dt_tool.specs.Verdicts.{file_patterns, width}
 use Rattle.dt_tool.proofs.Law.{layout_tokens}
 use Rattle.dt_tool.proofs.Rules.{keeps_rules}
 use Rattle.dt_tool.proofs.Chains.{program_agrees}
 
-pub file_sound : (bytes : List ℕ) → length bytes < 2 ^ 32 → first_fault width (bytes ∷ []) ≡ None → AreSound (patterns_of bytes)
+pub file_sound : (bytes : List ℕ) → length bytes < 2 ^ 32 → first_fault width (bytes ∷ []) ≡ None → AreSound (file_patterns bytes)
 file_sound bytes small unbroken =
     let Small : List ℕ → Type 0 = λ t. length t < 2 ^ 32 in
     flat_list_sound width (bytes ∷ []) (omega arith) (All-cons Small bytes [] small (All-nil Small)) unbroken
@@ -28,7 +28,7 @@ layout_decodes ps sound = record {
   calls = λ word outcomes. program_agrees (script outcomes) ps word 0 (under_masks ps sound);
 }
 
-pub text_decodes : (bytes text : List ℕ) (ps : List Pattern) → length bytes ≤ 4194304 → first_fault width (bytes ∷ []) ≡ None → ps ≡ patterns_of bytes → text ≡ layout ps → IsDecoder text (patterns_of bytes)
+pub text_decodes : (bytes text : List ℕ) (ps : List Pattern) → length bytes ≤ 4194304 → first_fault width (bytes ∷ []) ≡ None → ps ≡ file_patterns bytes → text ≡ layout ps → IsDecoder text (file_patterns bytes)
 text_decodes bytes text ps small unbroken is laid =
-    let P : List ℕ → Type 0 = λ t. IsDecoder t (patterns_of bytes) in
-    subst P (sym (laid ∙ ap layout is)) (layout_decodes (patterns_of bytes) (file_sound bytes (omega arith) unbroken))
+    let P : List ℕ → Type 0 = λ t. IsDecoder t (file_patterns bytes) in
+    subst P (sym (laid ∙ ap layout is)) (layout_decodes (file_patterns bytes) (file_sound bytes (omega arith) unbroken))

@@ -10,11 +10,13 @@ use Rattle.c_subset.specs.Tokens.{mark, read, tokens_of}
 use Rattle.c_subset.specs.Pieces.{Piece}
 use Rattle.c_subset.proofs.Seeing.{seen}
 use Rattle.c_subset.specs.Programs as c
-use Rattle.c_subset.specs.Programs.{Name, extract, call, Stmts, set_spelled, pattern_spelled, extract_spelled, if_spelled, spelled, all_spelled, union_spelled, decoder_head_spelled, decoder_end_spelled, prefix_of, spelling}
+use Rattle.c_subset.specs.Programs.{Name, extract, call, Stmts, set_spelled, pattern_spelled, extract_spelled, if_spelled, spelled, all_spelled, union_spelled, decoder_head_spelled, decoder_end_spelled, spelling}
 use Rattle.c_subset.proofs.Lexing.{Lexes, lexes_none, lexes-append, tokens_from}
 use Rattle.c_subset.proofs.Words.{hex_word_is, decimal_word_is, name_is_word}
 use Rattle.dt_forms.specs.Patterns.{Pattern}
-use Rattle.dt_tool.specs.Sound.{IsSound, AreSound}
+use Rattle.dt_forms.specs.Sound.{IsSoundPattern}
+use Rattle.dt_tool.specs.Sound.{AreSound}
+use Rattle.dt_tool.specs.Verdicts.{width}
 use Rattle.dt_tool.specs.Layout.{decoder, prefix, inferred_set, inferred_format, first_names, names_of, declared_pattern, inferred_extraction, test_then, chain, chain_program, head_line, set_lines, prototype_lines, extract_lines, decoder_head_lines, union_lines, comment_line, extract_line, call_line, body_lines, if_line, close_line, test_lines, pattern_lines, end_lines, pieces, layout}
 
 -- names of names
@@ -23,7 +25,7 @@ first_names_named [] h = h
 first_names_named (n ∷ ns) h = All-cons IsName n _ (All-head IsName n ns h) (All-filter _ IsName (first_names ns) (first_names_named ns (All-tail IsName n ns h)))
 
 pub all_named : (ps : List Pattern) → AreSound ps → All IsName (names_of ps)
-all_named ps h = first_names_named (map (λ p. p.name) ps) (All-map IsName (λ p. p.name) ps (All-weaker IsSound (λ p. IsName p.name) (λ p s. s.named) ps h))
+all_named ps h = first_names_named (map (λ p. p.name) ps) (All-map IsName (λ p. p.name) ps (All-weaker (IsSoundPattern width) (λ p. IsName p.name) (λ p s. s.named) ps h))
 
 -- the lines
 head_lexes : Lexes head_line []
@@ -50,7 +52,7 @@ union_lexes : (p : c.Pattern) (ps : List c.Pattern) → Lexes union_lines (union
 unfolding seen read
 union_lexes p ps = record { named = (tt, tt); seen = refl }
 
-comment_lexes : (level : ℕ) (p : Pattern) → IsSound p → Lexes (comment_line level p) []
+comment_lexes : (level : ℕ) (p : Pattern) → IsSoundPattern width p → Lexes (comment_line level p) []
 unfolding seen read
 comment_lexes level p h = record { named = (tt, (tt, (decimal_word_is (p.file + 1) (omega (arith, h.file_below)), (tt, (decimal_word_is p.line (omega (arith, h.line_below)), (tt, tt)))))); seen = refl }
 
@@ -58,7 +60,7 @@ extract_line_lexes : (level : ℕ) → Lexes (extract_line level) (spelled W32 d
 unfolding seen read
 extract_line_lexes level = record { named = (tt, (tt, tt)); seen = refl }
 
-call_line_lexes : (level : ℕ) (p : Pattern) → IsSound p → Lexes (call_line level p) (spelled W32 decoder prefix (call p.name inferred_set))
+call_line_lexes : (level : ℕ) (p : Pattern) → IsSoundPattern width p → Lexes (call_line level p) (spelled W32 decoder prefix (call p.name inferred_set))
 unfolding seen read
 call_line_lexes level p h = record { named = (tt, (tt, (name_is_word p.name h.named, (tt, tt)))); seen = refl }
 
@@ -74,17 +76,17 @@ end_lexes : Lexes end_lines decoder_end_spelled
 unfolding seen read
 end_lexes = record { named = (tt, tt); seen = refl }
 
-body_lexes : (level : ℕ) (p : Pattern) → IsSound p → Lexes (body_lines level p) (spelled W32 decoder prefix (extract inferred_format inferred_set) ++ spelled W32 decoder prefix (call p.name inferred_set))
+body_lexes : (level : ℕ) (p : Pattern) → IsSoundPattern width p → Lexes (body_lines level p) (spelled W32 decoder prefix (extract inferred_format inferred_set) ++ spelled W32 decoder prefix (call p.name inferred_set))
 body_lexes level p h = lexes-append (comment_lexes level p h) (lexes-append (extract_line_lexes level) (call_line_lexes level p h))
 
 -- a test and what follows it
-test_lexes : (b : Bool) (p : Pattern) (rest : Stmts) (qs : List Piece) → IsSound p → Lexes qs (all_spelled W32 decoder prefix rest) → Lexes (test_lines b p ++ qs) (all_spelled W32 decoder prefix (test_then b p rest))
+test_lexes : (b : Bool) (p : Pattern) (rest : Stmts) (qs : List Piece) → IsSoundPattern width p → Lexes qs (all_spelled W32 decoder prefix rest) → Lexes (test_lines b p ++ qs) (all_spelled W32 decoder prefix (test_then b p rest))
 test_lexes true p rest qs h r = lexes-append (body_lexes 4 p h) r
 test_lexes false p rest qs h r = lexes-append (lexes-append (if_line_lexes 4 p.mask p.bits) (lexes-append (body_lexes 8 p h) (close_line_lexes 4))) r
 
 chain_lexes : (ps : List Pattern) → AreSound ps → Lexes (flat_map pattern_lines ps) (all_spelled W32 decoder prefix (chain ps))
 chain_lexes [] h = lexes_none
-chain_lexes (p ∷ ps) h = test_lexes (p.mask == 0) p (chain ps) _ (All-head IsSound p ps h) (chain_lexes ps (All-tail IsSound p ps h))
+chain_lexes (p ∷ ps) h = test_lexes (p.mask == 0) p (chain ps) _ (All-head (IsSoundPattern width) p ps h) (chain_lexes ps (All-tail (IsSoundPattern width) p ps h))
 
 prototypes_lex : (ns : List Name) → All IsName ns → Lexes (flat_map prototype_lines ns) (flat_map (pattern_spelled (record { name = prefix; is_static = true })) (map declared_pattern ns))
 prototypes_lex [] h = lexes_none

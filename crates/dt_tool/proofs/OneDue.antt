@@ -8,7 +8,7 @@ use Rattle.dt_tree.proofs.Firsts.{one_first}
 use Rattle.dt_tree.proofs.Total.{some_first_knot}
 use Rattle.std.proofs.lemmas.Bool.{cases_lt}
 use Rattle.dt_tool.specs.Words.{file_named}
-use Rattle.dt_tool.specs.Verdicts.{Verdict, kept, too_large, broken, overlapping, BreaksFirst, IsVerdict, first_broken, patterns_of, limit}
+use Rattle.dt_tool.specs.Verdicts.{Verdict, kept, too_large, broken, overlapping, BreaksFirst, IsVerdict, first_broken, file_patterns, limit}
 use Rattle.dt_tool.specs.Due.{Due, usage, missing, IsDue, IsDueOf, IsDueOfInput, IsDueOfFile, due_of_verdict}
 
 some_or_none : {A : Type 0} (x : A) → None ≡ Some x → ⊥
@@ -40,7 +40,7 @@ one_verdict bytes (overlapping ms) kept h k = absurd (k.1.no_knot h.1.places h.1
 one_verdict bytes (overlapping ms) too_large h k = absurd (not_both_sizes bytes None h.0 k)
 one_verdict bytes (overlapping ms) (broken b) h k = absurd (some_or_none b (both_first bytes None (Some b) h.0 k))
 one_verdict bytes (overlapping ms) (overlapping ns) h k =
-    ap overlapping (h.1.each ∙ ap (map (pattern_at (patterns_of bytes))) (one_first (patterns_of bytes) h.1.places k.1.places h.1.first k.1.first) ∙ sym k.1.each)
+    ap overlapping (h.1.each ∙ ap (map (pattern_at (file_patterns bytes))) (one_first (file_patterns bytes) h.1.places k.1.places h.1.first k.1.first) ∙ sym k.1.each)
 
 of_file : (file bytes : List ℕ) (one other : Due) → IsDueOf file bytes one → IsDueOf file bytes other → one ≡ other
 of_file file bytes one other h k = sym h.due ∙ ap (due_of_verdict file bytes) (one_verdict bytes h.verdict k.verdict h.stands k.stands) ∙ k.due
@@ -57,9 +57,9 @@ pub one_due : (words : List (List ℕ)) (files : Files) (one other : Due) → Is
 one_due words files one other h k = of_named (file_named words) files one other h k
 
 by_knot : (bytes : List ℕ) → BreaksFirst bytes None → (v : Verdict) × IsVerdict bytes v
-by_knot bytes h = elim (some_first_knot (patterns_of bytes)) [
+by_knot bytes h = elim (some_first_knot (file_patterns bytes)) [
   | inl parted ↦ (kept, (h, parted))
-  | inr knot ↦ (overlapping (map (pattern_at (patterns_of bytes)) knot.0), (h, record { places = knot.0; first = knot.1; each = refl }))
+  | inr knot ↦ (overlapping (map (pattern_at (file_patterns bytes)) knot.0), (h, record { places = knot.0; first = knot.1; each = refl }))
 ]
 
 by_fault : (bytes : List ℕ) (fault : Option Fault) → BreaksFirst bytes fault → (v : Verdict) × IsVerdict bytes v

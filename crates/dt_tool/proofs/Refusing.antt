@@ -4,19 +4,20 @@ use Rattle.std.specs.Prelude.{Result, Ok, Err, Vec, All, IfOk, MatchResult, IsEr
 use Rattle.std.specs.declared.alloc.Global.{Global}
 use Rattle.std.proofs.lemmas.List.{length-map}
 use Rattle.std.proofs.lemmas.List.Elements.{Contains-get_or}
+use Rattle.std.specs.Option.{option_or}
 use Rattle.dt_lines.specs.Faults as faults
 use Rattle.dt_lines.specs.Faults.{FileFault, line_fault}
 use Rattle.dt_lines.specs.Lines.{Line, logical_lines}
 use Rattle.dt_forms.specs.declared.form.Pattern.{Pattern as Kept}
 use Rattle.dt_forms.specs.Patterns.{Pattern}
-use Rattle.dt_forms.specs.Rules.{Broken, Fault, Scope, scope_of, fault_or, or_later, faults_of_line, after_line, fault_in_lines, first_fault}
+use Rattle.dt_forms.specs.Rules.{Broken, Fault, Scope, scope_of, fault_or, faults_of_line, after_line, fault_in_lines, first_fault}
 use Rattle.dt_forms.specs.View.{pattern_seen, fault_seen, texts_of, text_of_file, IsReported}
 use Rattle.dt_forms.specs.declared.fault.Fault.{Fault as Reported}
 use Rattle.dt_forms.specs.declared.source.Source.{Source}
 use Rattle.dt_tree.specs.Knots.{pattern_at, IsFirstKnot}
 use Rattle.dt_tree.specs.Refusals.{file_and_line, ShowsFirstKnot}
 use Rattle.dt_tool.specs.Messages as said
-use Rattle.dt_tool.specs.Verdicts.{broken, overlapping, width, limit, first_of, first_broken, patterns_of}
+use Rattle.dt_tool.specs.Verdicts.{broken, overlapping, width, limit, first_of, first_broken, file_patterns}
 use Rattle.dt_tool.specs.Due.{Due, refused, IsDueOf}
 use Rattle.dt_tool.specs.Stops.{AnswersDue, Refuses, RefusesKnot}
 use Rattle.dt_tool.specs.declared.generate.Stop.{Stop}
@@ -60,7 +61,7 @@ fault_of_lines file scope [] fault is = absurd (cc)
 fault_of_lines file scope (l ∷ ls) fault is =
     fault_of_line file l.line (faults_of_line width scope l) (fault_in_lines width file (after_line scope l) ls) fault (fault_of_lines file (after_line scope l) ls fault) is
 
-now_or_never : (now : Option Fault) (fault : Fault) → or_later now None ≡ Some fault → now ≡ Some fault
+now_or_never : (now : Option Fault) (fault : Fault) → option_or now None ≡ Some fault → now ≡ Some fault
 now_or_never None fault is = is
 now_or_never (Some f) fault is = is
 
@@ -108,7 +109,7 @@ refuses_knot {E} message stop file kept shown knot made = by_message message (ma
     by_message (Err e) made_is stop_is = let P : Stop → Type 0 = λ s. RefusesKnot s file (map pattern_seen kept) in subst P (sym stop_is) tt
 
 -- a knot of the file's patterns is due
-pub knot_due : (A : Type 0) (file bytes : List ℕ) (ps : List Pattern) (stop : Stop) → length bytes ≤ limit → first_broken bytes ≡ None → ps ≡ patterns_of bytes → RefusesKnot stop file ps
+pub knot_due : (A : Type 0) (file bytes : List ℕ) (ps : List Pattern) (stop : Stop) → length bytes ≤ limit → first_broken bytes ≡ None → ps ≡ file_patterns bytes → RefusesKnot stop file ps
     → AnswersDue {A = A} ⊥ (Err stop) (IsDueOf file bytes)
 knot_due A file bytes ps stops.Usage small unbroken are knot = absurd knot
 knot_due A file bytes ps (stops.ReadFault message) small unbroken are knot = absurd knot

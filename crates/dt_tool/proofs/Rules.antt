@@ -9,7 +9,9 @@ use Rattle.dt_values.specs.Names.{IsName}
 use Rattle.c_subset.specs.Programs.{Name, Stmts}
 use Rattle.c_subset.specs.Keeps.{PatternNamed, ExtractionNamed, StmtsNamed, StmtsBelow, AllDiffer, KeepsRules}
 use Rattle.dt_forms.specs.Patterns.{Pattern}
-use Rattle.dt_tool.specs.Sound.{IsSound, AreSound}
+use Rattle.dt_forms.specs.Sound.{IsSoundPattern}
+use Rattle.dt_tool.specs.Sound.{AreSound}
+use Rattle.dt_tool.specs.Verdicts.{width}
 use Rattle.dt_tool.specs.Layout.{inferred_set, inferred_extraction, first_names, names_of, declared_pattern, test_then, chain, chain_program}
 use Rattle.dt_tool.proofs.Law.{all_named}
 
@@ -37,21 +39,21 @@ names_declared (n ∷ ns) = ap (λ l. n ∷ l) (names_declared ns)
 declared_named : (ns : List Name) → All IsName ns → All PatternNamed (map declared_pattern ns)
 declared_named ns h = All-map PatternNamed declared_pattern ns (All-weaker IsName (λ n. PatternNamed (declared_pattern n)) (λ n named. record { name = named; set = refl }) ns h)
 
-test_named : (b : Bool) (p : Pattern) (rest : Stmts) → IsSound p → StmtsNamed rest → StmtsNamed (test_then b p rest)
+test_named : (b : Bool) (p : Pattern) (rest : Stmts) → IsSoundPattern width p → StmtsNamed rest → StmtsNamed (test_then b p rest)
 test_named true p rest h r = ((refl, refl), ((h.named, refl), r))
 test_named false p rest h r = (((refl, refl), ((h.named, refl), tt)), r)
 
 chain_named : (ps : List Pattern) → AreSound ps → StmtsNamed (chain ps)
 chain_named [] h = tt
-chain_named (p ∷ ps) h = test_named (p.mask == 0) p (chain ps) (All-head IsSound p ps h) (chain_named ps (All-tail IsSound p ps h))
+chain_named (p ∷ ps) h = test_named (p.mask == 0) p (chain ps) (All-head (IsSoundPattern width) p ps h) (chain_named ps (All-tail (IsSoundPattern width) p ps h))
 
-test_below : (b : Bool) (p : Pattern) (rest : Stmts) → IsSound p → StmtsBelow (2 ^ 32) rest → StmtsBelow (2 ^ 32) (test_then b p rest)
+test_below : (b : Bool) (p : Pattern) (rest : Stmts) → IsSoundPattern width p → StmtsBelow (2 ^ 32) rest → StmtsBelow (2 ^ 32) (test_then b p rest)
 test_below true p rest h r = (tt, (tt, r))
 test_below false p rest h r = ((h.mask_below, h.bits_below, (tt, (tt, tt))), r)
 
 chain_below : (ps : List Pattern) → AreSound ps → StmtsBelow (2 ^ 32) (chain ps)
 chain_below [] h = tt
-chain_below (p ∷ ps) h = test_below (p.mask == 0) p (chain ps) (All-head IsSound p ps h) (chain_below ps (All-tail IsSound p ps h))
+chain_below (p ∷ ps) h = test_below (p.mask == 0) p (chain ps) (All-head (IsSoundPattern width) p ps h) (chain_below ps (All-tail (IsSoundPattern width) p ps h))
 
 pub keeps_rules : (ps : List Pattern) → AreSound ps → KeepsRules (chain_program ps)
 keeps_rules [] h = record {

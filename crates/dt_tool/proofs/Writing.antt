@@ -47,10 +47,6 @@ pub no_patterns : {X : Type 0} (view : X → Pattern) (lines : List Piece) (xs :
 no_patterns view lines [] old h = sym (nothing old)
 no_patterns view lines (x ∷ xs) old h = absurd (omega arith)
 
-pub some_patterns : {X : Type 0} (view : X → Pattern) (lines : List Piece) (xs : List X) (old new : List ℕ) → (length xs ≡ 0 → ⊥) → new ≡ old ++ pieces_text lines → new ≡ old ++ pieces_text (where_patterns lines (map view xs))
-some_patterns view lines [] old new h e = absurd (h refl)
-some_patterns view lines (x ∷ xs) old new h e = e
-
 -- lines that a list has one after another
 pub lines_more : {X : Type 0} (lines : X → List Piece) (old mid new : List ℕ) (xs : List X) (i : ℕ) (x : X) → i < length xs → x ≡ get_or xs i x → mid ≡ old ++ pieces_text (flat_map lines (take i xs)) → new ≡ mid ++ pieces_text (lines x) → new ≡ old ++ pieces_text (flat_map lines (take (i + 1) xs))
 lines_more lines old mid new xs i x h is e f =

@@ -1,9 +1,9 @@
 -- What is due for words over files, whatever the outside does: in the order of refusals, the words, the input, what it breaks first.
-use Rattle.std.specs.Prelude.{◌≡◌, ℕ, List, Option, Some, None, option_and_then}
+use Rattle.std.specs.Prelude.{◌≡◌, ◌<◌, ℕ, List, All, Option, Some, None, option_and_then}
 use Rattle.std.specs.FinMap as map
 use Rattle.dt_io.specs.Files.{Files}
 use Rattle.dt_tool.specs.Words.{file_named}
-use Rattle.dt_tool.specs.Verdicts.{Verdict, kept, too_large, broken, overlapping, IsVerdict, patterns_of}
+use Rattle.dt_tool.specs.Verdicts.{Verdict, kept, too_large, broken, overlapping, IsVerdict, file_patterns}
 use Rattle.dt_tool.specs.Layout.{layout}
 use Rattle.dt_tool.specs.Messages as said
 
@@ -15,7 +15,7 @@ pub data Due : Type 0 where
   written : List ℕ → Due
 
 abbrev pub due_of_verdict : List ℕ → List ℕ → Verdict → Due
-due_of_verdict file bytes kept = written (layout (patterns_of bytes))
+due_of_verdict file bytes kept = written (layout (file_patterns bytes))
 due_of_verdict file bytes too_large = refused (said.too_large file)
 due_of_verdict file bytes (broken fault) = refused (said.broken file fault)
 due_of_verdict file bytes (overlapping members) = refused (said.overlapping file members)
@@ -46,5 +46,6 @@ input words files = option_and_then (map.get files) (file_named words)
 pub record CanBeDue (words : List (List ℕ)) (what : Due) : Type 0 where
   pub file : List ℕ
   pub bytes : List ℕ
+  pub are_bytes : All (λ b. b < 256) bytes
   pub named : file_named words ≡ Some file
   pub due : IsDueOf file bytes what

@@ -5,7 +5,9 @@ use Rattle.dt_values.specs.declared.width.Width.TheVariants.{W32}
 use Rattle.c_subset.specs.Programs as c
 use Rattle.c_subset.specs.Programs.{Name, Stmts, done, then, on_mask, extract, call, Program, hex}
 use Rattle.c_subset.specs.Pieces.{Piece, text, name, spaces, pieces_text}
+use Rattle.dt_forms.specs.Models.{first_set, first_format}
 use Rattle.dt_forms.specs.Patterns.{Pattern}
+use Rattle.dt_tool.specs.Verdicts.{width}
 
 -- the names that no option changes yet
 abbrev pub decoder : Name
@@ -16,10 +18,10 @@ prefix = codes "trans"
 
 -- A pattern without arguments takes the one set and the one format without them, inferred at the first pattern.
 abbrev pub inferred_set : Name
-inferred_set = codes "decode0"
+inferred_set = (first_set decoder).name
 
 abbrev pub inferred_format : Name
-inferred_format = codes "decode_Fmt_0"
+inferred_format = (first_format decoder width).name
 
 -- x alone, where there is a pattern
 abbrev pub with_patterns : {A : Type 0} → A → List Pattern → List A

@@ -17,8 +17,8 @@ abbrev pub width : ℕ
 width = 32
 
 -- the patterns of a file
-abbrev pub patterns_of : List ℕ → List Pattern
-patterns_of bytes = flat_list (bytes ∷ [])
+abbrev pub file_patterns : List ℕ → List Pattern
+file_patterns bytes = flat_list (bytes ∷ [])
 
 -- a rule that the file breaks at a line
 abbrev pub fault_at : ℕ → Rule → Detail → Fault
@@ -53,7 +53,7 @@ pub record BreaksFirst (bytes : List ℕ) (fault : Option Fault) : Type 0 where
 
 -- overlaps are looked at where no line breaks a rule
 abbrev pub IsVerdict : List ℕ → Verdict → Type 0
-IsVerdict bytes kept = BreaksFirst bytes None × IsParted (patterns_of bytes)
+IsVerdict bytes kept = BreaksFirst bytes None × IsParted (file_patterns bytes)
 IsVerdict bytes too_large = limit < length bytes
 IsVerdict bytes (broken fault) = BreaksFirst bytes (Some fault)
-IsVerdict bytes (overlapping members) = BreaksFirst bytes None × AreFirstKnot (patterns_of bytes) members
+IsVerdict bytes (overlapping members) = BreaksFirst bytes None × AreFirstKnot (file_patterns bytes) members

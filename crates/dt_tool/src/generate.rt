@@ -1,6 +1,6 @@
 //! From the command words to the C text, with all that stops it on the way.
 
-ghost use Rattle.std.specs.Prelude.{◌≡◌, ◌≤◌, ◌↔◌, false, Err, None, map, vec_len, IfErr, IfOk, IfSome, IsSomeAnd, MatchResult, OnOk};
+ghost use Rattle.std.specs.Prelude.{◌≡◌, ◌<◌, ◌≤◌, ◌↔◌, false, All, Err, None, map, vec_len, IfErr, IfOk, IfSome, IsSomeAnd, MatchResult, OnOk};
 ghost use Rattle.dt_io.specs.Causes.{Rose};
 ghost use Rattle.dt_io.specs.Files.{Held};
 ghost use Rattle.dt_lines.specs.Faults.{line_fault};
@@ -15,7 +15,7 @@ ghost use Rattle.dt_tool.specs.Decoders.{IsDecoder};
 ghost use Rattle.dt_tool.specs.Due.{IsDue, IsDueOf, input, refused};
 ghost use Rattle.dt_tool.specs.Messages as said;
 ghost use Rattle.dt_tool.specs.Stops.{AnswersDue, IsForSome, Refuses, RefusesKnot, SaysUnread, StopsLoad};
-ghost use Rattle.dt_tool.specs.Verdicts.{fault_at, first_broken, patterns_of};
+ghost use Rattle.dt_tool.specs.Verdicts.{fault_at, first_broken, file_patterns};
 ghost use Rattle.dt_tool.specs.Words.{file_named, texts};
 
 use crate::messages;
@@ -47,7 +47,7 @@ pub fn generate<D: Folder>(alloc: Global, words: &[String], folder: &mut D) -> R
     ensures usage { (result ≡ Err Stop.Usage) ↔ (file_named (texts words.now) ≡ None) }
     ensures answer { IfSome (D.files folder.old) (λ files. AnswersDue (Rose (D.read_faults folder.old) (D.read_faults folder.new)) result (IsDue (texts words.now) files)) }
     ensures some { IsForSome result (texts words.now) }
-    ensures decoder { IfOk result (λ text. IfSome (D.files folder.old) (λ files. IsSomeAnd (input (texts words.now) files) (λ bytes. IsDecoder text.items (patterns_of bytes)))) }
+    ensures decoder { IfOk result (λ text. IfSome (D.files folder.old) (λ files. IsSomeAnd (input (texts words.now) files) (λ bytes. IsDecoder text.items (file_patterns bytes)))) }
     ensures usage_reads_nothing { result ≡ Err Stop.Usage → folder.new ≡ folder.old }
     ensures unread { IfErr result (λ stop. IfSome (file_named (texts words.now)) (λ file. SaysUnread file (Rose (D.misses folder.old) (D.misses folder.new)) (Rose (D.read_faults folder.old) (D.read_faults folder.new)) stop)) }
     ensures files { D.files folder.new ≡ D.files folder.old }
@@ -65,13 +65,17 @@ pub fn generate<D: Folder>(alloc: Global, words: &[String], folder: &mut D) -> R
 fn load<D: Folder>(alloc: Global, folder: &mut D, file: &str) -> Result<Vec<u8>, Stop>
     ensures bytes { IfOk result (λ bytes. Held (D.files folder.old) file.now (λ held. bytes.items ≡ held)) }
     ensures limit { IfOk result (λ bytes. vec_len bytes ≤ LARGEST_FILE) }
+    ensures are_bytes { IfOk result (λ bytes. All (λ b. b < 256) bytes.items) }
     ensures stop { IfErr result (λ stop. StopsLoad (D.files folder.old) file.now (Rose (D.misses folder.old) (D.misses folder.new)) (Rose (D.read_faults folder.old) (D.read_faults folder.new)) stop) }
     ensures files { D.files folder.new ≡ D.files folder.old }
     ensures misses { D.misses folder.old ≤ D.misses folder.new }
     ensures read_faults { D.read_faults folder.old ≤ D.read_faults folder.new }
 {
     match read_all(alloc, folder, file, LARGEST_FILE as u64) {
-        Ok(bytes) => Ok(bytes),
+        Ok(bytes) => {
+            law_bytes(bytes.as_slice());
+            Ok(bytes)
+        }
         Err(LoadFault::Missing | LoadFault::Failed) => {
             Err(unread(messages::cannot_read(alloc, file)))
         }
@@ -80,11 +84,16 @@ fn load<D: Folder>(alloc: Global, folder: &mut D, file: &str) -> Result<Vec<u8>,
     }
 }
 
+// A byte is below 256.
+fn law_bytes(bytes: &[u8])
+    ensures { All (λ b. b < 256) bytes.now }
+{}
+
 // The C text of a file of these bytes.
 fn generate_from(alloc: Global, file: &str, bytes: Vec<u8>) -> Result<Vec<u8>, Stop>
     requires { vec_len bytes ≤ LARGEST_FILE }
     ensures due { AnswersDue ⊥ result (IsDueOf file.now bytes.items) }
-    ensures decoder { IfOk result (λ text. IsDecoder text.items (patterns_of bytes.items)) }
+    ensures decoder { IfOk result (λ text. IsDecoder text.items (file_patterns bytes.items)) }
 {
     let source = source_of(alloc, file, bytes)?;
     let model = model_of(alloc, file, source)?;
@@ -115,14 +124,14 @@ fn source_of(alloc: Global, file: &str, bytes: Vec<u8>) -> Result<Source, Stop>
 fn model_of(alloc: Global, file: &str, source: Source) -> Result<Model, Stop>
     requires source { IsSourceAt 0 source }
     requires sound { line_fault source.bytes ≡ None }
-    ensures patterns { IfOk result (λ model. map pattern_seen model.patterns ≡ patterns_of source.bytes) }
+    ensures patterns { IfOk result (λ model. map pattern_seen model.patterns ≡ file_patterns source.bytes) }
     ensures entries { IfOk result (λ model. items_of model.entries ≡ entries_of (map pattern_seen model.patterns)) }
     ensures sound { IfOk result IsSound }
     ensures kept { OnOk result (first_broken source.bytes ≡ None) }
     ensures stop { IfErr result (λ stop. Refuses stop (IsDueOf file.now source.bytes)) }
 {
     let files = [source];
-    match read_model(alloc, &options(), files.as_slice()) {
+    match read_model(alloc, &options(Width::W32), files.as_slice()) {
         Ok(model) => Ok(model),
         Err(ModelFault::Broken(fault)) => Err(refused(messages::broken(
             alloc,
@@ -134,15 +143,15 @@ fn model_of(alloc: Global, file: &str, source: Source) -> Result<Model, Stop>
     }
 }
 
-// What no word changes yet.
-fn options() -> Options
-    ensures width { result.width ≡ Width.W32 }
+/// The options of a decoder of words of this width. No word changes the others yet.
+pub(crate) fn options(width: Width) -> Options
+    ensures width { result.width ≡ width }
     ensures fixed { result.variable ≡ false }
     ensures decode { IsOptionName result.decode }
     ensures translate { IsOptionName result.translate }
 {
     Options {
-        width: Width::W32,
+        width,
         variable: false,
         decode: Name::from_bytes(b"decode").unwrap(),
         decode_static: true,

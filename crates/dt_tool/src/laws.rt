@@ -15,22 +15,22 @@ ghost use Rattle.dt_tool.specs.Sound.{AreSound};
 ghost use Rattle.dt_tool.specs.Trial.{call_of, trial_of};
 
 /// The text of sound patterns spells the program that tries them one after another.
-pub fn text_spells_program()
+pub fn law_text_spells_program()
     ensures { (ps : List Pattern) → AreSound ps → Spells (layout ps) (chain_program ps) }
 {}
 
 /// The program of a list of patterns makes the calls of trying them one after another, for every host.
-pub fn run_is_trial<S>()
+pub fn law_run_is_trial<S>()
     ensures { (host : Host S) (ps : List Pattern) (word : ℕ) (state : S) → AreUnderMasks ps →
         AgreesWith (trial_of host ps word state) (run_of (chain_program ps) [] host word state) }
 {}
 
 /// The same for a script, from its first call on.
-pub fn script_run_is_trial()
+pub fn law_script_run_is_trial()
     ensures { (outcomes : List Bool) (ps : List Pattern) (word : ℕ) → AreUnderMasks ps →
         AgreesWith (trial_of (script outcomes) ps word 0) (run_of (chain_program ps) [] (script outcomes) word 0) }
 {
-    run_is_trial::<u64>();
+    law_run_is_trial::<u64>();
 }
 
 /// Exactly one thing is due for words over files.

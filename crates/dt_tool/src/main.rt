@@ -13,9 +13,8 @@ pub mod text;
 pub mod tool;
 pub mod words;
 
-use crate::status::{Outcome, Status};
-use crate::tool::tool;
-use dt_io::{RealFolder, RealSink, Sink, write_all};
+use crate::tool::{no_memory, tool};
+use dt_io::{RealFolder, RealSink, write_all};
 use std::alloc::AllocError;
 use std::io::ErrorKind;
 use std::process::ExitCode;
@@ -28,7 +27,9 @@ fn main(rt: HostRuntime) -> ExitCode {
     let mut err = RealSink::new(rt.stderr());
     let args = match env::args(&rt) {
         Ok(args) => args,
-        Err(error) if error.kind() == ErrorKind::OutOfMemory => return no_memory(&mut err),
+        Err(error) if error.kind() == ErrorKind::OutOfMemory => {
+            return ExitCode::from(no_memory(&mut err).number);
+        }
         Err(_) => {
             let _ = write_all(&mut err, b"error: no words\n");
             return ExitCode::from(NO_WORDS);
@@ -36,7 +37,7 @@ fn main(rt: HostRuntime) -> ExitCode {
     };
     let words: Result<Vec<String>, AllocError> = args.skip(1).collect(rt.alloc());
     let Ok(words) = words else {
-        return no_memory(&mut err);
+        return ExitCode::from(no_memory(&mut err).number);
     };
     let mut folder = RealFolder::new(&rt);
     let mut out = RealSink::new(io::writer(&rt));
@@ -48,9 +49,4 @@ fn main(rt: HostRuntime) -> ExitCode {
         &mut err,
     );
     ExitCode::from(status.number)
-}
-
-fn no_memory<E: Sink>(err: &mut E) -> ExitCode {
-    let _ = write_all(err, messages::NO_MEMORY);
-    ExitCode::from(Status::of(Outcome::NoMemory).number)
 }

@@ -12,7 +12,7 @@ use crate::parts::{Part, write_parts};
 use crate::rule_texts::rule_text;
 use dt_fields::{Detail, Rule};
 use dt_forms::{Fault, Pattern};
-use dt_tree::lookup::pattern_of;
+use dt_tree::lookup::find_pattern;
 use std::alloc::{AllocError, Global};
 
 /// What is said where the words aren't understood.
@@ -28,27 +28,25 @@ pub const NO_MEMORY: &[u8] = b"error: no memory\n";
 pub fn cannot_read(alloc: Global, file: &str) -> Result<Vec<u8>, AllocError>
     ensures { IfOk result (λ text. text.items ≡ said.cannot_read file.now) }
 {
-    let mut text = Vec::new(alloc);
-    write_parts(
-        &mut text,
-        &[
-            Part::Text(b"error: cannot read "),
-            Part::Text(file.as_bytes()),
-            Part::Text(b"\n"),
-        ],
-    )?;
-    Ok(text)
+    about_file(alloc, b"error: cannot read ", file)
 }
 
 /// What is said of a file over its limit.
 pub fn too_large(alloc: Global, file: &str) -> Result<Vec<u8>, AllocError>
     ensures { IfOk result (λ text. text.items ≡ said.too_large file.now) }
 {
+    about_file(alloc, b"error: K0 file too large: ", file)
+}
+
+// A line about a whole file.
+fn about_file<'a>(alloc: Global, front: &'a [u8], file: &'a str) -> Result<Vec<u8>, AllocError>
+    ensures { IfOk result (λ text. text.items ≡ said.about_file front.now file.now) }
+{
     let mut text = Vec::new(alloc);
     write_parts(
         &mut text,
         &[
-            Part::Text(b"error: K0 file too large: "),
+            Part::Text(front),
             Part::Text(file.as_bytes()),
             Part::Text(b"\n"),
         ],
@@ -118,7 +116,7 @@ fn write_overlap(
     ensures { (member : ℕ) → member < length patterns.now → place ≡ file_and_line (map pattern_seen patterns.now) member
         → OnOk result (text.new.items ≡ text.old.items ++ pieces_text (said.overlap_pieces kind.now file.now (pattern_at (map pattern_seen patterns.now) member))) }
 {
-    match pattern_of(patterns, place.0, place.1) {
+    match find_pattern(patterns, place.0, place.1) {
         None => Ok(()),
         Some(pattern) => {
             let fault = Fault {

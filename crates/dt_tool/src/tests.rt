@@ -1,10 +1,15 @@
 //! Runs of the whole command over folders and sinks in memory. The expected texts are the worked
 //! examples of docs/C_SUBSET.md and docs/COMMANDS.md.
-ghost use Rattle.std.specs.Prelude.{◌≤◌, IfOk};
+ghost use Rattle.std.specs.Prelude.{◌≤◌, length};
 
+use crate::generate::options;
 use crate::status::{Outcome, Status};
 use crate::tool::tool;
+use dt_forms::{Source, read_model};
 use dt_io::{MemoryFolder, MemorySink};
+use dt_lines::LARGEST_FILE;
+use dt_tree::{Places, Tree, TreeFault};
+use dt_values::Width;
 use std::alloc::{AllocError, Global};
 use std::fmt::Write;
 use std::process::Abort;
@@ -252,6 +257,31 @@ t:3: note: H2 overlapping: fence_tso
     for (text, err) in table {
         check_text(&rt, text.as_bytes(), 1, b"", err.as_bytes())?;
     }
+    Ok(())
+}
+
+// The places that a refusal of a file of this width shows; None where its patterns are parted.
+fn knot_in(alloc: Global, width: Width, text: &[u8]) -> Result<Option<Places>, Fail>
+    requires { length text.now ≤ LARGEST_FILE }
+{
+    let files = [Source::read(alloc, 0, Vec::from_slice(alloc, text)?)?];
+    let Ok(model) = read_model(alloc, &options(width), files.as_slice()) else {
+        return Err("no model".into());
+    };
+    match Tree::build(alloc, &model) {
+        Ok(_) => Ok(None),
+        Err(TreeFault::Knot(places)) => Ok(Some(places)),
+        Err(TreeFault::NoMemory) => Err("no memory".into()),
+    }
+}
+
+#[test]
+fn words_of_16_bits_are_told_apart_too(rt: HostRuntime) -> Result<(), Fail> {
+    let three = b"a 0-1 -------------\nb 11- -------------\nc -00 -------------\n".as_slice();
+    let places = knot_in(rt.alloc(), Width::W16, three)?.ok_or("a knot")?;
+    assert_eq!(rt; places.items(), [(0, 1), (0, 2), (0, 3)].as_slice());
+    let two = b"a 0-1 -------------\nb 11- -------------\n".as_slice();
+    assert!(rt; knot_in(rt.alloc(), Width::W16, two)?.is_none());
     Ok(())
 }
 

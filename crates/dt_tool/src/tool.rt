@@ -1,11 +1,11 @@
 //! The command: reads what the words name, and writes what is due.
 
-ghost use Rattle.std.specs.Prelude.{◌≡◌, ◌≢◌, ◌≤◌, ◌⊎◌, ◌↔◌, [], codes, None, IfSome, IsSomeAnd};
+ghost use Rattle.std.specs.Prelude.{◌≡◌, ◌≢◌, ◌≤◌, ◌⊎◌, ◌↔◌, codes, None, IfSome, IsSomeAnd};
 ghost use Rattle.dt_io.specs.Causes.{Rose};
 ghost use Rattle.dt_io.specs.Bytes.{AppendsPart, appended};
 ghost use Rattle.dt_tool.specs.Words.{file_named, texts};
 ghost use Rattle.dt_tool.specs.Due.{CanBeDue, Due, IsDue, input};
-ghost use Rattle.dt_tool.specs.Verdicts.{patterns_of};
+ghost use Rattle.dt_tool.specs.Verdicts.{file_patterns};
 ghost use Rattle.dt_tool.specs.Decoders.{AppendsDecoder};
 ghost use Rattle.dt_tool.specs.Stops.{IsMissing};
 ghost use Rattle.dt_tool.specs.Statuses.{exit_status};
@@ -32,7 +32,7 @@ pub fn tool<D: Folder, O: Sink, E: Sink>(
     // When each outcome comes.
     ensures usage { (result.outcome ≡ Outcome.Usage) ↔ (file_named (texts words.now) ≡ None) }
     ensures done { result.outcome ≡ Outcome.Done → IfSome (D.files folder.old) (λ files. WritesWhole (IsDue (texts words.now) files) (O.written out.old) (O.written out.new)) }
-    ensures decoder { result.outcome ≡ Outcome.Done → IfSome (D.files folder.old) (λ files. IsSomeAnd (input (texts words.now) files) (λ bytes. AppendsDecoder (O.written out.old) (O.written out.new) (patterns_of bytes))) }
+    ensures decoder { result.outcome ≡ Outcome.Done → IfSome (D.files folder.old) (λ files. IsSomeAnd (input (texts words.now) files) (λ bytes. AppendsDecoder (O.written out.old) (O.written out.new) (file_patterns bytes))) }
     ensures refused { result.outcome ≡ Outcome.Refused → IfSome (D.files folder.old) (λ files. SaysRefusal (IsDue (texts words.now) files) (E.written err.old) (E.written err.new) (E.faults err.old) (E.faults err.new)) }
     ensures unread { result.outcome ≡ Outcome.ReadFault → Rose (D.misses folder.old) (D.misses folder.new) ⊎ Rose (D.read_faults folder.old) (D.read_faults folder.new) }
     ensures missing { result.outcome ≡ Outcome.ReadFault → IfSome (D.files folder.old) (λ files. IsMissing (IsDue (texts words.now) files) ⊎ Rose (D.read_faults folder.old) (D.read_faults folder.new)) }
@@ -65,8 +65,19 @@ pub fn tool<D: Folder, O: Sink, E: Sink>(
         Err(Stop::Usage) => report(messages::USAGE, Outcome::Usage, err),
         Err(Stop::ReadFault(message)) => report(message.as_slice(), Outcome::ReadFault, err),
         Err(Stop::Refused(message)) => report(message.as_slice(), Outcome::Refused, err),
-        Err(Stop::NoMemory) => report(messages::NO_MEMORY, Outcome::NoMemory, err),
+        Err(Stop::NoMemory) => no_memory(err),
     }
+}
+
+/// Says that memory is wanting, where there is none for the words.
+pub fn no_memory<E: Sink>(err: &mut E) -> Status
+    ensures outcome { result.outcome ≡ Outcome.NoMemory }
+    ensures number { result.number ≡ exit_status Outcome.NoMemory }
+    ensures said { Reports (E.written err.old) (E.written err.new) (E.faults err.old) (E.faults err.new) (codes "error: no memory\n") }
+    ensures faults { E.faults err.old ≤ E.faults err.new }
+    ensures rest { E.rest err.new ≡ E.rest err.old }
+{
+    report(messages::NO_MEMORY, Outcome::NoMemory, err)
 }
 
 // Writes the text, and says where that fails.

@@ -1,6 +1,6 @@
 //! Laws of knots: public functions whose contracts are the laws, and whose bodies are empty.
 
-ghost use Rattle.std.specs.Prelude.{◌≡◌, ◌<◌, ◌↔◌, ◌⊎◌, ℕ, true, List, ◌++◌, length, All, Contains};
+ghost use Rattle.std.specs.Prelude.{◌≡◌, ◌<◌, ◌↔◌, ◌⊎◌, ℕ, List, ◌++◌, length, All, Contains};
 ghost use Rattle.dt_forms.specs.Patterns.{Pattern, Matches};
 ghost use Rattle.dt_tree.specs.Knots.{pattern_at, IsKnot, IsParted, IsFirstKnot, IsWhole, HaveOneWord};
 

@@ -9,7 +9,7 @@ ghost use Rattle.dt_tree.specs.Places.{stands_at};
 use dt_forms::Pattern;
 
 /// The pattern at this line of this file, among patterns in file order; None where there is none.
-pub fn pattern_of(patterns: &[Pattern], file: u16, line: u32) -> Option<&Pattern>
+pub fn find_pattern(patterns: &[Pattern], file: u16, line: u32) -> Option<&Pattern>
     requires in_order { AllPairs IsBefore patterns.now }
     ensures { option_copied result ≡ find (stands_at file line) patterns.now }
 {

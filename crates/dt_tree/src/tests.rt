@@ -5,7 +5,7 @@ ghost use Rattle.dt_forms.specs.Trees.{items_of, items_from, numbers_from, entri
 ghost use Rattle.dt_forms.specs.Trees.Item.{one};
 ghost use Rattle.dt_tree.specs.Knots.{patterns_of};
 
-use crate::lookup::pattern_of;
+use crate::lookup::find_pattern;
 use crate::{Places, Tree, TreeFault};
 use dt_forms::{Entry, EntryList, FormatList, Model, Pattern, PatternList, SetList, Values};
 use dt_values::{Name, Width};
@@ -172,10 +172,10 @@ fn a_pattern_that_fixes_nothing(rt: HostRuntime) -> Result<(), Fail> {
 fn the_pattern_at_a_place(rt: HostRuntime) -> Result<(), Fail> {
     let rows = [row_of(4, b"11--------------")];
     let patterns = patterns_in(rt.alloc(), &rows)?;
-    let pattern = pattern_of(patterns.items(), 0, 4).ok_or("a pattern")?;
+    let pattern = find_pattern(patterns.items(), 0, 4).ok_or("a pattern")?;
     assert_eq!(rt; pattern.fixed_mask, rows[0].mask);
-    assert!(rt; pattern_of(patterns.items(), 0, 3).is_none());
-    assert!(rt; pattern_of(patterns.items(), 1, 4).is_none());
+    assert!(rt; find_pattern(patterns.items(), 0, 3).is_none());
+    assert!(rt; find_pattern(patterns.items(), 1, 4).is_none());
     Ok(())
 }
 

@@ -9,3 +9,6 @@ returns-then-ends_in_backslash-clause-lines c = λ number texts.
     ap (λ lines. map (line_seen c.args.bytes.now) c.args.lines.now.items ++ lines)
     (ap (λ line. lines_after line number texts) (without_last_line c.args.bytes.now c.args.gathered c.without_last.result c.without_last.ensures.line c.without_last.ensures.indent c.without_last.ensures.tokens)
     ∙ goes_on (gathered_line c.args.bytes.now c.args.gathered) number texts (cc))
+
+pub returns-clause-file : goal.returns-clause-file
+returns-clause-file c = c.in_ok-end_line.ensures.file _ c.requires.spans c.requires.file

@@ -1,6 +1,6 @@
 use Rattle.c_subset.proofs.ByRules.{read_by_rules}
 use Rattle.c_subset.proofs.ToRules.{lexed_by_rules}
-use Rattle.c_subset.proofs.laws.text_is_lexed.Goals as goal
+use Rattle.c_subset.proofs.laws.law_text_is_lexed.Goals as goal
 
 pub returns-clause-read : goal.returns-clause-read
 returns-clause-read c = λ text tokens h. read_by_rules h

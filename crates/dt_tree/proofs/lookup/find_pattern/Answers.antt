@@ -1,7 +1,7 @@
 use Rattle.std.proofs.Common.{rules}
 use Rattle.std.proofs.lemmas.List.Sorted.{answers_always}
 use Rattle.dt_tree.proofs.Named.{searched_found, searched_none}
-use Rattle.dt_tree.proofs.lookup.pattern_of.Goals as goal
+use Rattle.dt_tree.proofs.lookup.find_pattern.Goals as goal
 
 pub returns-in-Ok : goal.returns-in-Ok
 returns-in-Ok c =

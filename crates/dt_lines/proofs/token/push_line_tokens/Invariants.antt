@@ -2,15 +2,15 @@ use Rattle.std.proofs.Common.{◌≡◌, ◌≤◌, ◌++◌, length, map, false
 use Rattle.std.specs.Prelude.{All}
 use Rattle.std.specs.List.{between}
 use Rattle.dt_lines.specs.Lines.{is_white, tokens}
-use Rattle.dt_lines.specs.Spans.{text_at, AreSpans}
-use Rattle.dt_lines.proofs.token.push_tokens.Given as goal
+use Rattle.dt_lines.specs.Spans.{text_at}
+use Rattle.dt_lines.specs.SoFar.{AreSpansTo}
+use Rattle.dt_lines.proofs.token.push_line_tokens.Given as goal
 
 abbrev pub invariant-loop-at : goal.invariant-loop-at
 invariant-loop-at l = record {
   from : l.from ≤ l.start;
   start : l.start ≤ l.at;
   word : All (λ b. is_white b ≡ false) (between l.start l.at l.bytes);
-  tokens : map (text_at l.bytes) l.spans.items ++ tokens (between l.start l.to l.bytes) ≡ map (text_at l.bytes) l.fn.spans.items ++ tokens (between l.from l.to l.bytes);
-  spans : AreSpans (length l.bytes) l.spans.items;
-  before : All (λ s. s.end ≤ l.start) l.spans.items;
+  tokens : map (text_at l.bytes) l.spans.items ++ tokens (between l.start l.end l.bytes) ≡ map (text_at l.bytes) l.fn.spans.items ++ tokens (between l.from l.end l.bytes);
+  spans : AreSpansTo (length l.bytes) l.start l.spans.items;
 }
