@@ -8,7 +8,7 @@ use crate::line::{LineFault, Place, read_line};
 use crate::{Entry, Fault, MOST_PATTERNS, Model, ModelFault, Options, Source, read_model};
 use dt_fields::{Detail, Rule};
 use dt_lines::{LARGEST_FILE, Span};
-use dt_values::{Name, Width};
+use dt_values::Width;
 use std::alloc::Global;
 use std::test::Fail;
 
@@ -20,11 +20,7 @@ fn options(width: Width) -> Options
 {
     Options {
         width,
-        variable: false,
-        decode: Name::from_bytes(b"decode").unwrap(),
-        decode_static: true,
-        translate: Name::from_bytes(b"trans").unwrap(),
-        translate_static: true,
+        ..Options::default()
     }
 }
 

@@ -1,10 +1,9 @@
 //! From the command words to the C text, with all that stops it on the way.
 
-ghost use Rattle.std.specs.Prelude.{◌≡◌, ◌<◌, ◌≤◌, ◌↔◌, false, All, Err, None, map, vec_len, IfErr, IfOk, IfSome, IsSomeAnd, MatchResult, OnOk};
+ghost use Rattle.std.specs.Prelude.{◌≡◌, ◌<◌, ◌≤◌, ◌↔◌, All, Err, None, map, vec_len, IfErr, IfOk, IfSome, IsSomeAnd, MatchResult, OnOk};
 ghost use Rattle.dt_io.specs.Causes.{Rose};
 ghost use Rattle.dt_io.specs.Files.{Held};
 ghost use Rattle.dt_lines.specs.Faults.{line_fault};
-ghost use Rattle.dt_forms.specs.Options.{IsOptionName};
 ghost use Rattle.dt_forms.specs.Rules.{nothing};
 ghost use Rattle.dt_forms.specs.Sound.{IsSound};
 ghost use Rattle.dt_forms.specs.Sources.{IsSourceAt};
@@ -26,8 +25,10 @@ use dt_forms::{Fault, Model, ModelFault, Options, Source, read_model};
 use dt_io::{Folder, LoadFault, read_all};
 use dt_lines::{LARGEST_FILE, LineFault};
 use dt_tree::{Tree, TreeFault};
-use dt_values::{Name, Width};
 use std::alloc::{AllocError, Global};
+
+// The first line of a file that is one too many.
+const LINE_TOO_MANY: u32 = 65_536;
 
 /// Why no text is written, with what is said of it.
 #[derive(Debug, Drop)]
@@ -114,7 +115,7 @@ fn source_of(alloc: Global, file: &str, bytes: Vec<u8>) -> Result<Source, Stop>
 {
     match Source::read(alloc, 0, bytes) {
         Ok(source) => Ok(source),
-        Err(LineFault::TooManyLines) => Err(refused_at(alloc, file, 65_536, Rule::K1)),
+        Err(LineFault::TooManyLines) => Err(refused_at(alloc, file, LINE_TOO_MANY, Rule::K1)),
         Err(LineFault::LongName(line)) => Err(refused_at(alloc, file, line, Rule::K2)),
         Err(LineFault::NoMemory) => Err(Stop::NoMemory),
     }
@@ -131,7 +132,7 @@ fn model_of(alloc: Global, file: &str, source: Source) -> Result<Model, Stop>
     ensures stop { IfErr result (λ stop. Refuses stop (IsDueOf file.now source.bytes)) }
 {
     let files = [source];
-    match read_model(alloc, &options(Width::W32), files.as_slice()) {
+    match read_model(alloc, &Options::default(), files.as_slice()) {
         Ok(model) => Ok(model),
         Err(ModelFault::Broken(fault)) => Err(refused(messages::broken(
             alloc,
@@ -140,23 +141,6 @@ fn model_of(alloc: Global, file: &str, source: Source) -> Result<Model, Stop>
             &fault,
         ))),
         Err(ModelFault::NoMemory) => Err(Stop::NoMemory),
-    }
-}
-
-/// The options of a decoder of words of this width. No word changes the others yet.
-pub(crate) fn options(width: Width) -> Options
-    ensures width { result.width ≡ width }
-    ensures fixed { result.variable ≡ false }
-    ensures decode { IsOptionName result.decode }
-    ensures translate { IsOptionName result.translate }
-{
-    Options {
-        width,
-        variable: false,
-        decode: Name::from_bytes(b"decode").unwrap(),
-        decode_static: true,
-        translate: Name::from_bytes(b"trans").unwrap(),
-        translate_static: true,
     }
 }
 

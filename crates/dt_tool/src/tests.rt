@@ -2,10 +2,9 @@
 //! examples of docs/C_SUBSET.md and docs/COMMANDS.md.
 ghost use Rattle.std.specs.Prelude.{◌≤◌, length};
 
-use crate::generate::options;
 use crate::status::{Outcome, Status};
 use crate::tool::tool;
-use dt_forms::{Source, read_model};
+use dt_forms::{Options, Source, read_model};
 use dt_io::{MemoryFolder, MemorySink};
 use dt_lines::LARGEST_FILE;
 use dt_tree::{Places, Tree, TreeFault};
@@ -265,7 +264,11 @@ fn knot_in(alloc: Global, width: Width, text: &[u8]) -> Result<Option<Places>, F
     requires { length text.now ≤ LARGEST_FILE }
 {
     let files = [Source::read(alloc, 0, Vec::from_slice(alloc, text)?)?];
-    let Ok(model) = read_model(alloc, &options(width), files.as_slice()) else {
+    let options = Options {
+        width,
+        ..Options::default()
+    };
+    let Ok(model) = read_model(alloc, &options, files.as_slice()) else {
         return Err("no model".into());
     };
     match Tree::build(alloc, &model) {
@@ -600,58 +603,50 @@ fn a_failure_of_standard_error_changes_no_status(rt: HostRuntime) -> Result<(), 
     Ok(())
 }
 
-/// Call number i fails, for i from 1 up to the first run that meets no failure.
+/// Read number i fails, for i from 1 up to the first run that meets no failure.
 #[test]
-fn each_call_that_fails_has_its_outcome(rt: HostRuntime) -> Result<(), Fail> {
-    let mut read_done = false;
-    let mut write_done = false;
+fn each_read_that_fails_is_a_read_fault(rt: HostRuntime) -> Result<(), Fail> {
     for call in 1..100 {
         let failing = [call];
         let reads_fail = Failing {
             reads: &failing,
             ..NOTHING_FAILS
         };
-        let ran = run(
-            rt.alloc(),
-            &["gen", "t"],
-            NOP_LINE.as_bytes(),
-            16,
-            reads_fail,
-        )?;
+        let nop = NOP_LINE.as_bytes();
+        let ran = run(rt.alloc(), &["gen", "t"], nop, 16, reads_fail)?;
         if ran.status.outcome == Outcome::Done {
-            read_done = true;
-            break;
+            assert!(rt; call > 1);
+            return Ok(());
         }
         assert_eq!(rt; ran.status, Status::of(Outcome::ReadFault));
         assert_eq!(rt; ran.err.bytes(), b"error: cannot read t\n".as_slice());
         assert_eq!(rt; ran.out.bytes(), b"".as_slice());
     }
+    Err("no run was done".into())
+}
+
+/// Write number i fails, for i from 1 up to the first run that meets no failure.
+#[test]
+fn each_write_that_fails_is_a_write_fault(rt: HostRuntime) -> Result<(), Fail> {
     for call in 1..100 {
         let failing = [call];
         let writes_fail = Failing {
             writes: &failing,
             ..NOTHING_FAILS
         };
-        let ran = run(
-            rt.alloc(),
-            &["gen", "t"],
-            NOP_LINE.as_bytes(),
-            16,
-            writes_fail,
-        )?;
+        let nop = NOP_LINE.as_bytes();
+        let ran = run(rt.alloc(), &["gen", "t"], nop, 16, writes_fail)?;
         let kept = (call as usize - 1) * 16;
         if ran.status.outcome == Outcome::Done {
             assert!(rt; kept >= NOP_TEXT.len());
-            write_done = true;
-            break;
+            return Ok(());
         }
         assert!(rt; kept < NOP_TEXT.len());
         assert_eq!(rt; ran.status, Status::of(Outcome::WriteFault));
         assert_eq!(rt; ran.out.bytes(), &NOP_TEXT.as_bytes()[..kept]);
         assert_eq!(rt; ran.err.bytes(), b"error: cannot write\n".as_slice());
     }
-    assert!(rt; read_done && write_done);
-    Ok(())
+    Err("no run was done".into())
 }
 
 #[test]
