@@ -4,7 +4,8 @@ use Rattle.dt_lines.specs.Spans.{text_at}
 use Rattle.dt_lines.specs.declared.line.Span.{Span}
 use Rattle.dt_forms.specs.declared.line.LineFault.{LineFault}
 use Rattle.dt_forms.specs.declared.line.LineFault.TheVariants as line_faults
-use Rattle.dt_forms.specs.Rules.{Broken, first, faults_in, scope_of}
+use Rattle.dt_forms.specs.Reading.{scope_of}
+use Rattle.dt_forms.specs.Rules.{Broken, first, faults_in}
 use Rattle.dt_forms.specs.View.{LineBroken}
 
 pub first_front : (faults more : List Broken) (b : Broken) → first faults ≡ Some b → first (faults ++ more) ≡ Some b

@@ -1,6 +1,7 @@
 pub mod BinaryNumbers
 pub mod Widths
 pub mod FirstFaults
+pub mod AllFaults
 pub mod Entries
 pub mod Inferred
 pub mod ReadLines

@@ -9,7 +9,8 @@ use Rattle.dt_lines.specs.declared.line.Logical.{Logical}
 use Rattle.dt_forms.specs.declared.fault.ModelFault.{ModelFault}
 use Rattle.dt_forms.specs.declared.form.Pattern.{Pattern as Kept}
 use Rattle.dt_forms.specs.Patterns.{PatternLine, pattern_in, pattern_line, pattern_lines_in}
-use Rattle.dt_forms.specs.Rules.{Fault, Scope, after_line, after_lines, fault_in_lines, fault_or, faults_of_line, made_by, scope_of}
+use Rattle.dt_forms.specs.Reading.{after_line, after_lines, after_tokens, fault_in_lines, fault_or, scope_of}
+use Rattle.dt_forms.specs.Rules.{Fault, Scope, faults_of_line}
 use Rattle.dt_forms.specs.View.{FileBroken, kept_pattern}
 
 -- what is left begins with the line at this place
@@ -21,7 +22,7 @@ pushed old None rest = ap (λ ps. ps ++ map kept_pattern rest) (append-nil old)
 pushed old (Some p) rest = append_assoc old (kept_pattern p ∷ []) (map kept_pattern rest)
 
 pushed_count : (file number : ℕ) (tokens : List (List ℕ)) (old new : List Kept) (n m : ℕ) → n ≡ length old → m ≡ length new
-    → new ≡ old ++ option_to_list (option_map kept_pattern (pattern_in file number tokens)) → made_by tokens (scope_of n) ≡ scope_of m
+    → new ≡ old ++ option_to_list (option_map kept_pattern (pattern_in file number tokens)) → after_tokens tokens (scope_of n) ≡ scope_of m
 pushed_count file number [] old new n m h k e =
     let same : length new ≡ length old + 0 = ap length e ∙ length-append old [] in
     let count : n ≡ m = omega arith in

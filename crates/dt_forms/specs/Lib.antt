@@ -1,6 +1,7 @@
 pub mod Options
 pub mod Patterns
 pub mod Rules
+pub mod Reading
 pub mod View
 pub mod Trees
 pub mod Sources

@@ -1,13 +1,12 @@
 -- The rules of the lines of pattern files, as decodetree.py checks them, for lines of a name and bits. The order of the rules is this project's.
-use Rattle.std.specs.Prelude.{ℕ, ◌+◌, ◌-◌, ◌*◌, ◌^◌, ◌==◌, ◌||◌, nat_lt, Bool, true, false, List, [], ◌∷◌, ◌++◌, length, Option, Some, None, codes, not, bit_or, bit_xor, if◌then◌else◌}
+use Rattle.std.specs.Prelude.{ℕ, ◌+◌, ◌-◌, ◌*◌, ◌^◌, ◌==◌, ◌||◌, nat_lt, Bool, true, false, List, [], ◌∷◌, ◌++◌, length, map, filter_map, Option, Some, None, codes, not, bit_or, bit_xor, if◌then◌else◌}
 use Rattle.std.specs.List.{concat, list_all, list_any}
-use Rattle.std.specs.Option.{option_or}
 use Rattle.dt_values.specs.Names.{is_name}
 use Rattle.dt_values.specs.Types.{is_text}
 use Rattle.dt_lines.specs.Lines.{Line, logical_lines}
 use Rattle.dt_fields.specs.declared.rule.Rule.{Rule}
 use Rattle.dt_fields.specs.declared.rule.Rule.TheVariants as rule
-use Rattle.dt_forms.specs.Patterns.{fixed_digit, ignored_digit, number_of}
+use Rattle.dt_forms.specs.Patterns.{PatternLine, fixed_digit, ignored_digit, number_of, pattern_line}
 
 -- what a message names beside the rule: nothing, a token of the line or a name by its bytes, a number, or bits of the word
 pub data Detail : Type 0 where
@@ -24,9 +23,6 @@ Broken = Rule × Detail
 -- what the lines before a line have made, in all files so far: how many patterns
 pub record Scope : Type 0 where
   pub patterns : ℕ
-
-abbrev pub scope_of : ℕ → Scope
-scope_of n = record { patterns = n }
 
 -- a row of the list of rules: it is there where the rule is broken
 abbrev pub where_broken : Bool → Broken → List Broken
@@ -102,38 +98,47 @@ pub record Fault : Type 0 where
   pub line : ℕ
   pub broken : Broken
 
-abbrev pub first : List Broken → Option Broken
+abbrev pub first : {A : Type 0} → List A → Option A
 first [] = None
-first (b ∷ bs) = Some b
+first (x ∷ xs) = Some x
 
--- what a line adds to what the lines before it have made
-abbrev pub made_by : List (List ℕ) → Scope → Scope
-made_by [] scope = scope
-made_by (name ∷ tokens) scope = record { patterns = scope.patterns + 1 }
+-- a logical line with the place of its file among all files, from 0
+pub record FileLine : Type 0 where
+  pub file : ℕ
+  pub line : Line
 
-abbrev pub after_line : Scope → Line → Scope
-after_line scope l = made_by l.tokens scope
+abbrev pub in_file : ℕ → Line → FileLine
+in_file file l = record { file = file; line = l }
 
-abbrev pub after_lines : Scope → List Line → Scope
-after_lines scope [] = scope
-after_lines scope (l ∷ ls) = after_lines (after_line scope l) ls
+-- the logical lines of files, of which the first has this place
+abbrev pub lines_of_files : ℕ → List (List ℕ) → List FileLine
+lines_of_files file [] = []
+lines_of_files file (text ∷ texts) = map (in_file file) (logical_lines text) ++ lines_of_files (file + 1) texts
 
--- the fault of a line, or of what comes behind it
-abbrev pub fault_or : ℕ → ℕ → List Broken → Option Fault → Option Fault
-fault_or file line [] later = later
-fault_or file line (b ∷ bs) later = Some (record { file = file; line = line; broken = b })
+-- those of all files, in order of file and line
+abbrev pub all_lines : List (List ℕ) → List FileLine
+all_lines texts = lines_of_files 0 texts
 
--- the first fault of these lines of a file
-abbrev pub fault_in_lines : ℕ → ℕ → Scope → List Line → Option Fault
-fault_in_lines width file scope [] = None
-fault_in_lines width file scope (l ∷ ls) = fault_or file l.line (faults_of_line width scope l) (fault_in_lines width file (after_line scope l) ls)
+-- the pattern line that a line is, if it has tokens
+abbrev pub pattern_on : FileLine → Option PatternLine
+pattern_on l = pattern_line l.file l.line
 
--- the first fault of files, of which the first has this place
-abbrev pub fault_in_files : ℕ → ℕ → Scope → List (List ℕ) → Option Fault
-fault_in_files width file scope [] = None
-fault_in_files width file scope (text ∷ texts) =
-    option_or (fault_in_lines width file scope (logical_lines text)) (fault_in_files width (file + 1) (after_lines scope (logical_lines text)) texts)
+-- what the lines before a line have made: how many pattern lines are among them
+abbrev pub scope_before : List FileLine → Scope
+scope_before lines = record { patterns = length (filter_map pattern_on lines) }
+
+abbrev pub fault_on : FileLine → Broken → Fault
+fault_on l b = record { file = l.file; line = l.line.line; broken = b }
+
+-- the faults of a line: its rules see what the lines before it have made
+abbrev pub faults_on : ℕ → List FileLine → FileLine → List Fault
+faults_on width before l = map (fault_on l) (faults_of_line width (scope_before before) l.line)
+
+-- the faults of the lines that follow these before them, in order of line and rule
+abbrev pub faults_from : ℕ → List FileLine → List FileLine → List Fault
+faults_from width before [] = []
+faults_from width before (l ∷ ls) = faults_on width before l ++ faults_from width (before ++ l ∷ []) ls
 
 -- the first rule of the least line that breaks one, in files of which the first has place 0
 abbrev pub first_fault : ℕ → List (List ℕ) → Option Fault
-first_fault width texts = fault_in_files width 0 (scope_of 0) texts
+first_fault width texts = first (faults_from width [] (all_lines texts))

@@ -6,7 +6,8 @@ ghost use Rattle.std.specs.Option.{option_map};
 ghost use Rattle.dt_values.specs.Widths.{width_bits};
 ghost use Rattle.dt_lines.specs.Spans.{IsWithin, text_at};
 ghost use Rattle.dt_forms.specs.Patterns.{fixed_digit, ignored_digit, number_of, one_digit, pattern_in};
-ghost use Rattle.dt_forms.specs.Rules.{defines, faults_in, head_faults, is_bit, is_group_mark, is_not_built, is_other_token, scope_of, token_faults, whole_faults, Broken};
+ghost use Rattle.dt_forms.specs.Reading.{scope_of};
+ghost use Rattle.dt_forms.specs.Rules.{defines, faults_in, head_faults, is_bit, is_group_mark, is_not_built, is_other_token, token_faults, whole_faults, Broken};
 ghost use Rattle.dt_forms.specs.View.{LineBroken, kept_pattern};
 
 use crate::bits::{Digits, all_bits, number_of};

@@ -4,16 +4,15 @@ use Rattle.std.specs.Prelude.{Result, Ok, Err, Vec, All, IfOk, MatchResult, IsEr
 use Rattle.std.specs.declared.alloc.Global.{Global}
 use Rattle.std.proofs.lemmas.List.{length-map}
 use Rattle.std.proofs.lemmas.List.Elements.{Contains-get_or}
-use Rattle.std.specs.Option.{option_or}
 use Rattle.dt_lines.specs.Faults as faults
 use Rattle.dt_lines.specs.Faults.{FileFault, line_fault}
-use Rattle.dt_lines.specs.Lines.{Line, logical_lines}
 use Rattle.dt_forms.specs.declared.form.Pattern.{Pattern as Kept}
 use Rattle.dt_forms.specs.Patterns.{Pattern}
-use Rattle.dt_forms.specs.Rules.{Broken, Fault, Scope, scope_of, fault_or, faults_of_line, after_line, fault_in_lines, first_fault}
+use Rattle.dt_forms.specs.Rules.{Fault, first_fault}
 use Rattle.dt_forms.specs.View.{pattern_seen, fault_seen, texts_of, text_of_file, IsReported}
 use Rattle.dt_forms.specs.declared.fault.Fault.{Fault as Reported}
 use Rattle.dt_forms.specs.declared.source.Source.{Source}
+use Rattle.dt_forms.proofs.AllFaults.{fault_of_one_file}
 use Rattle.dt_tree.specs.Knots.{pattern_at, IsFirstKnot}
 use Rattle.dt_tree.specs.Refusals.{file_and_line, ShowsFirstKnot}
 use Rattle.dt_tool.specs.Messages as said
@@ -51,30 +50,13 @@ refuses (Ok made) stop IsDue text due made_is stop_is =
     subst P (sym stop_is) (subst (λ t. IsDue (refused t)) (sym made_is) due)
 refuses (Err e) stop IsDue text due made_is stop_is = let P : Stop → Type 0 = λ s. Refuses s IsDue in subst P (sym stop_is) tt
 
--- the first fault of one file is in that file
-fault_of_line : (file line : ℕ) (broken : List Broken) (later : Option Fault) (fault : Fault) → (later ≡ Some fault → fault.file ≡ file) → fault_or file line broken later ≡ Some fault → fault.file ≡ file
-fault_of_line file line [] later fault rest is = rest is
-fault_of_line file line (b ∷ bs) later fault rest is = let same : record { file = file; line = line; broken = b } ≡ fault = cc in sym (ap (λ (f : Fault). f.file) same)
-
-fault_of_lines : (file : ℕ) (scope : Scope) (lines : List Line) (fault : Fault) → fault_in_lines width file scope lines ≡ Some fault → fault.file ≡ file
-fault_of_lines file scope [] fault is = absurd (cc)
-fault_of_lines file scope (l ∷ ls) fault is =
-    fault_of_line file l.line (faults_of_line width scope l) (fault_in_lines width file (after_line scope l) ls) fault (fault_of_lines file (after_line scope l) ls fault) is
-
-now_or_never : (now : Option Fault) (fault : Fault) → option_or now None ≡ Some fault → now ≡ Some fault
-now_or_never None fault is = is
-now_or_never (Some f) fault is = is
-
-pub fault_of_file : (bytes : List ℕ) (fault : Fault) → first_fault width (bytes ∷ []) ≡ Some fault → fault.file ≡ 0
-fault_of_file bytes fault is = fault_of_lines 0 (scope_of 0) (logical_lines bytes) fault (now_or_never (fault_in_lines width 0 (scope_of 0) (logical_lines bytes)) fault is)
-
 -- what is reported of one file is due
 pub reported_due : (file : List ℕ) (files : List Source) (source : Source) (bytes : List ℕ) (fault : Reported) → files ≡ source ∷ [] → bytes ≡ source.bytes → length source.bytes ≤ limit → line_fault source.bytes ≡ None
     → IsReported (text_of_file files fault.file) fault (first_fault width (texts_of files)) → IsDueOf file source.bytes (refused (said.broken file (fault_seen bytes fault)))
 reported_due file files source bytes fault one read small none reported =
     let alone : IsReported (text_of_file (source ∷ []) fault.file) fault (first_fault width (source.bytes ∷ [])) =
     subst (λ (fs : List Source). IsReported (text_of_file fs fault.file) fault (first_fault width (texts_of fs))) one reported in
-    let first : fault.file ≡ 0 = fault_of_file source.bytes (fault_seen (text_of_file (source ∷ []) fault.file) fault) (sym alone.same) in
+    let first : fault.file ≡ 0 = fault_of_one_file width source.bytes (fault_seen (text_of_file (source ∷ []) fault.file) fault) (sym alone.same) in
     let here : fault_seen (text_of_file (source ∷ []) fault.file) fault ≡ fault_seen source.bytes fault = ap (λ n. fault_seen (text_of_file (source ∷ []) n) fault) first in
     subst (λ b. IsDueOf file source.bytes (refused (said.broken file (fault_seen b fault)))) (sym read)
     (line_due file source.bytes (fault_seen source.bytes fault) small none (sym alone.same ∙ ap Some here))
