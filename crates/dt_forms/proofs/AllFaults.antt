@@ -5,8 +5,8 @@ use Rattle.std.specs.List.{cons_option, filter_map}
 use Rattle.std.proofs.lemmas.List.{append-nil, length-append}
 use Rattle.std.proofs.lemmas.List.Elements.{filter_map-append}
 use Rattle.dt_lines.specs.Lines.{Line, logical_lines}
-use Rattle.dt_forms.specs.Patterns.{pattern_in}
-use Rattle.dt_forms.specs.Rules.{Broken, Fault, FileLine, Scope, fault_on, faults_from, faults_of_line, first, first_fault, in_file, lines_of_files, scope_before, pattern_on}
+use Rattle.dt_forms.specs.Patterns.{FileLine, in_file, lines_of_files, pattern_in, pattern_on}
+use Rattle.dt_forms.specs.Rules.{Broken, Fault, Scope, fault_on, faults_from, faults_of_line, first, first_fault, scope_before}
 use Rattle.dt_forms.specs.Reading.{after_line, after_lines, after_tokens, fault_in_files, fault_in_lines, fault_or, scope_of}
 
 -- a line's first fault comes before all later ones

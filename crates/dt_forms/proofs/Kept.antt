@@ -1,15 +1,14 @@
 -- What holds of pattern lines that break no rule.
-use Rattle.std.proofs.Common.{◌≡◌, ℕ, ◌+◌, ◌≤◌, ◌==◌, Bool, true, false, List, [], ◌∷◌, ◌++◌, length, map, Option, Some, None, refl, ap, ◌∙◌, sym, subst, append_assoc, arith}
+use Rattle.std.proofs.Common.{◌≡◌, ℕ, ◌+◌, ◌≤◌, ◌==◌, Bool, true, false, List, [], ◌∷◌, ◌++◌, length, map, Option, Some, None, refl, sym, subst, append_assoc, arith}
 use Rattle.std.specs.Prelude.{IfSome, IsTrue, not}
 use Rattle.std.specs.List.{All, concat, cons_option, filter_map}
 use Rattle.std.proofs.lemmas.Bool.Decides.{nat_tests}
 use Rattle.std.proofs.lemmas.List.{append-nil}
-use Rattle.std.proofs.lemmas.List.Elements.{All-nil, All-cons, filter_map-append}
+use Rattle.std.proofs.lemmas.List.Elements.{All-nil, All-cons}
 use Rattle.dt_values.specs.Names.{is_name, IsName}
 use Rattle.dt_fields.specs.declared.rule.Rule.TheVariants as rule
-use Rattle.dt_lines.specs.Lines.{Line, logical_lines}
-use Rattle.dt_forms.specs.Patterns.{PatternLine, pattern_in, pattern_line, pattern_lines_in, pattern_lines_from, pattern_lines}
-use Rattle.dt_forms.specs.Rules.{nothing, token, number, Broken, Fault, Scope, where_broken, head_faults, is_full, is_indented, is_not_built, token_faults, whole_faults, faults_in, faults_of_line, first, FileLine, in_file, lines_of_files, all_lines, pattern_on, scope_before, fault_on, faults_from, first_fault}
+use Rattle.dt_forms.specs.Patterns.{FileLine, PatternLine, all_lines, pattern_in, pattern_lines, pattern_on}
+use Rattle.dt_forms.specs.Rules.{nothing, token, number, Broken, Fault, Scope, where_broken, head_faults, is_full, is_indented, is_not_built, token_faults, whole_faults, faults_in, faults_of_line, first, scope_before, fault_on, faults_from, first_fault}
 use Rattle.dt_forms.proofs.AllFaults.{patterns_more}
 
 pub both_empty : {A : Type 0} (xs ys : List A) → xs ++ ys ≡ [] → (xs ≡ []) × (ys ≡ [])
@@ -41,18 +40,6 @@ none_on : (l : FileLine) (faults : List Broken) (later : List Fault) → map (fa
 none_on l [] later h = (refl, h)
 none_on l (b ∷ bs) later h = absurd (cc)
 
--- the pattern lines of files are those among all lines
-patterns_in_file : (file : ℕ) (lines : List Line) → filter_map pattern_on (map (in_file file) lines) ≡ pattern_lines_in file lines
-patterns_in_file file [] = refl
-patterns_in_file file (l ∷ ls) = ap (cons_option (pattern_line file l)) (patterns_in_file file ls)
-
-patterns_in_files : (file : ℕ) (texts : List (List ℕ)) → filter_map pattern_on (lines_of_files file texts) ≡ pattern_lines_from file texts
-patterns_in_files file [] = refl
-patterns_in_files file (text ∷ texts) =
-    filter_map-append pattern_on (map (in_file file) (logical_lines text)) (lines_of_files (file + 1) texts)
-    ∙ ap (λ ps. ps ++ filter_map pattern_on (lines_of_files (file + 1) texts)) (patterns_in_file file (logical_lines text))
-    ∙ ap (λ ps. pattern_lines_in file (logical_lines text) ++ ps) (patterns_in_files (file + 1) texts)
-
 pub with_line : (Q : PatternLine → Type 0) (o : Option PatternLine) (ps : List PatternLine) → IfSome o Q → All Q ps → All Q (cons_option o ps)
 with_line Q None ps h k = k
 with_line Q (Some p) ps h k = All-cons Q p ps h k
@@ -82,7 +69,7 @@ module _ (width : ℕ) (Q : PatternLine → Type 0) (holds : HoldsUnbroken width
       with_line Q (pattern_on l) (filter_map pattern_on ls) (line_holds (scope_before before) l.file l.line.line l.line.indent l.line.tokens parts.0) (lines_hold (before ++ l ∷ []) ls parts.1)
 
   all_hold : (texts : List (List ℕ)) → first_fault width texts ≡ None → All Q (pattern_lines texts)
-  all_hold texts h = subst (All Q) (patterns_in_files 0 texts) (lines_hold [] (all_lines texts) (no_first (faults_from width [] (all_lines texts)) h))
+  all_hold texts h = lines_hold [] (all_lines texts) (no_first (faults_from width [] (all_lines texts)) h)
 
 -- a line that breaks no rule has as many bits as a word
 pub whole_width : (width : ℕ) (bits : List ℕ) → whole_faults width bits ≡ [] → length bits ≡ width
@@ -133,5 +120,4 @@ lines_few width before (l ∷ ls) h k =
 
 -- there are at most 8,192
 pub all_few : (width : ℕ) (texts : List (List ℕ)) → first_fault width texts ≡ None → length (pattern_lines texts) ≤ 8192
-all_few width texts h =
-    subst (λ (ps : List PatternLine). length ps ≤ 8192) (patterns_in_files 0 texts) (lines_few width [] (all_lines texts) (no_first (faults_from width [] (all_lines texts)) h) (omega arith))
+all_few width texts h = lines_few width [] (all_lines texts) (no_first (faults_from width [] (all_lines texts)) h) (omega arith)

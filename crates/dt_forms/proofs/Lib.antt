@@ -12,3 +12,4 @@ pub mod Soundness
 pub mod Made
 pub mod ReadSources
 pub mod SoundPatterns
+pub mod FilePatterns

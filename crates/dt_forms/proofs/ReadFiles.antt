@@ -7,11 +7,12 @@ use Rattle.dt_forms.specs.declared.fault.ModelFault.{ModelFault}
 use Rattle.dt_forms.specs.declared.fault.ModelFault.TheVariants as faults
 use Rattle.dt_forms.specs.declared.form.Pattern.{Pattern as Kept}
 use Rattle.dt_forms.specs.declared.source.Source.{Source}
-use Rattle.dt_forms.specs.Patterns.{PatternLine, pattern_lines_in, pattern_lines_from}
-use Rattle.dt_forms.specs.Reading.{after_lines, fault_in_lines, fault_in_files, scope_of}
+use Rattle.dt_forms.specs.Patterns.{PatternLine, pattern_lines}
+use Rattle.dt_forms.specs.Reading.{after_lines, fault_in_lines, fault_in_files, pattern_lines_from, pattern_lines_in, scope_of}
 use Rattle.dt_forms.specs.Rules.{Fault, Scope, first_fault}
 use Rattle.dt_forms.specs.View.{FileBroken, ModelBroken, IsReported, kept_pattern, text_of_file, texts_of}
 use Rattle.dt_forms.proofs.AllFaults.{reader_finds}
+use Rattle.dt_forms.proofs.FilePatterns.{patterns_found}
 
 file_left : (files : List Source) (i : ℕ) (s d : Source) → i < length files → s ≡ get_or files i d → drop i files ≡ s ∷ drop (i + 1) files
 file_left files i s d h is = drop_more files i d h ∙ ap (λ x. x ∷ drop (i + 1) files) (sym is)
@@ -29,7 +30,11 @@ patterns_more files i s d old new all h is made before =
     ∙ ap (λ fs. old ++ map kept_pattern (pattern_lines_from i (texts_of fs))) (sym (file_left files i s d h is))
     ∙ before
 
--- at the start nothing is made
+-- at the start all pattern lines are left
+pub patterns_at_start : (made : List Kept) (texts : List (List ℕ)) → made ≡ [] → made ++ map kept_pattern (pattern_lines_from 0 texts) ≡ map kept_pattern (pattern_lines texts)
+patterns_at_start made texts none = ap (λ ps. ps ++ map kept_pattern (pattern_lines_from 0 texts)) none ∙ ap (map kept_pattern) (patterns_found texts)
+
+-- and nothing is made
 pub faults_at_start : (width n : ℕ) (texts : List (List ℕ)) → n ≡ 0 → fault_in_files width 0 (scope_of n) texts ≡ first_fault width texts
 faults_at_start width n texts none = ap (λ m. fault_in_files width 0 (scope_of m) texts) none ∙ reader_finds width texts
 

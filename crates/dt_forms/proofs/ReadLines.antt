@@ -8,8 +8,8 @@ use Rattle.dt_lines.specs.Spans.{line_seen}
 use Rattle.dt_lines.specs.declared.line.Logical.{Logical}
 use Rattle.dt_forms.specs.declared.fault.ModelFault.{ModelFault}
 use Rattle.dt_forms.specs.declared.form.Pattern.{Pattern as Kept}
-use Rattle.dt_forms.specs.Patterns.{PatternLine, pattern_in, pattern_line, pattern_lines_in}
-use Rattle.dt_forms.specs.Reading.{after_line, after_lines, after_tokens, fault_in_lines, fault_or, scope_of}
+use Rattle.dt_forms.specs.Patterns.{PatternLine, pattern_in, pattern_line}
+use Rattle.dt_forms.specs.Reading.{after_line, after_lines, after_tokens, fault_in_lines, fault_or, pattern_lines_in, scope_of}
 use Rattle.dt_forms.specs.Rules.{Fault, Scope, faults_of_line}
 use Rattle.dt_forms.specs.View.{FileBroken, kept_pattern}
 

@@ -5,7 +5,9 @@ use Rattle.std.specs.List.{All, AllPairs, cons_option}
 use Rattle.std.proofs.lemmas.List.Elements.{All-nil, All-cons, All-map, All-weaker}
 use Rattle.dt_lines.specs.Lines.{Line, logical_lines, physical_lines}
 use Rattle.dt_lines.proofs.Numbers.{LinesRise, lines_later, logical_lines_rise}
-use Rattle.dt_forms.specs.Patterns.{PatternLine, pattern_in, pattern_line, pattern_lines_in, pattern_lines_from, pattern_lines}
+use Rattle.dt_forms.specs.Patterns.{PatternLine, pattern_in, pattern_line, pattern_lines}
+use Rattle.dt_forms.specs.Reading.{pattern_lines_in, pattern_lines_from}
+use Rattle.dt_forms.proofs.FilePatterns.{patterns_found}
 use Rattle.dt_forms.specs.Sound.{IsBefore}
 use Rattle.dt_forms.specs.View.{kept_pattern}
 
@@ -88,4 +90,4 @@ pairs_rise file line (p ∷ ps) h = (
 
 -- the patterns of files, in order, rise by their files and lines
 pub all_rise : (texts : List (List ℕ)) → AllPairs IsBefore (map kept_pattern (pattern_lines texts))
-all_rise texts = all_pairs IsBefore (map kept_pattern (pattern_lines texts)) (pairs_rise 0 0 (pattern_lines texts) (files_rise 0 texts))
+all_rise texts = all_pairs IsBefore (map kept_pattern (pattern_lines texts)) (pairs_rise 0 0 (pattern_lines texts) (subst (λ (ps : List PatternLine). Rises 0 0 ps) (patterns_found texts) (files_rise 0 texts)))

@@ -6,7 +6,9 @@ use Rattle.std.proofs.lemmas.List.Elements.{All-nil, All-append, All-head, All-t
 use Rattle.dt_lines.specs.Lines.{Line, logical_lines, physical_lines}
 use Rattle.dt_lines.proofs.Numbers.{LinesRise, logical_lines_rise, length-physical_lines}
 use Rattle.dt_forms.specs.declared.bits.Digits.TheVariants.{Ones}
-use Rattle.dt_forms.specs.Patterns.{PatternLine, one_digit, number_of, pattern_in, pattern_line, pattern_lines_in, pattern_lines_from, pattern_lines, pattern_of, flat_list}
+use Rattle.dt_forms.specs.Patterns.{PatternLine, one_digit, number_of, pattern_in, pattern_line, pattern_lines, pattern_of, flat_list}
+use Rattle.dt_forms.specs.Reading.{pattern_lines_in, pattern_lines_from}
+use Rattle.dt_forms.proofs.FilePatterns.{patterns_found}
 use Rattle.dt_forms.specs.Rules.{first_fault}
 use Rattle.dt_forms.specs.Sound.{IsSoundPattern}
 use Rattle.dt_forms.proofs.BinaryNumbers.{number_below}
@@ -54,5 +56,5 @@ pub flat_list_sound : (width : ℕ) (texts : List (List ℕ)) → length texts �
 flat_list_sound width texts few short none =
     let wide : All (HasWidth width) (pattern_lines texts) = all_width width texts none in
     let named : All HasName (pattern_lines texts) = all_named width texts none in
-    let placed : All (IsPlaced 16) (pattern_lines texts) = files_placed 16 0 texts (omega arith) short in
+    let placed : All (IsPlaced 16) (pattern_lines texts) = subst (All (IsPlaced 16)) (patterns_found texts) (files_placed 16 0 texts (omega arith) short) in
     All-map (IsSoundPattern width) pattern_of (pattern_lines texts) (λ k d below. sound_pattern width (get_or (pattern_lines texts) k d) (wide k d below) (named k d below) (placed k d below))

@@ -49,17 +49,30 @@ pattern_in file number (name ∷ tokens) = Some (record { file = file; line = nu
 abbrev pub pattern_line : ℕ → Line → Option PatternLine
 pattern_line file l = pattern_in file l.line l.tokens
 
--- the pattern lines among the lines of the file at this place
-abbrev pub pattern_lines_in : ℕ → List Line → List PatternLine
-pattern_lines_in file lines = filter_map (pattern_line file) lines
+-- a logical line with the place of its file among all files, from 0
+pub record FileLine : Type 0 where
+  pub file : ℕ
+  pub line : Line
 
--- those of files, of which the first has this place
-abbrev pub pattern_lines_from : ℕ → List (List ℕ) → List PatternLine
-pattern_lines_from file [] = []
-pattern_lines_from file (text ∷ texts) = pattern_lines_in file (logical_lines text) ++ pattern_lines_from (file + 1) texts
+abbrev pub in_file : ℕ → Line → FileLine
+in_file file l = record { file = file; line = l }
 
+-- the logical lines of files, of which the first has this place
+abbrev pub lines_of_files : ℕ → List (List ℕ) → List FileLine
+lines_of_files file [] = []
+lines_of_files file (text ∷ texts) = map (in_file file) (logical_lines text) ++ lines_of_files (file + 1) texts
+
+-- those of all files, in order of file and line
+abbrev pub all_lines : List (List ℕ) → List FileLine
+all_lines texts = lines_of_files 0 texts
+
+-- the pattern line that a line is, if it has tokens
+abbrev pub pattern_on : FileLine → Option PatternLine
+pattern_on l = pattern_line l.file l.line
+
+-- the pattern lines of files, in order
 abbrev pub pattern_lines : List (List ℕ) → List PatternLine
-pattern_lines texts = pattern_lines_from 0 texts
+pattern_lines texts = filter_map pattern_on (all_lines texts)
 
 -- what a line's bits fix
 abbrev pub pattern_of : PatternLine → Pattern

@@ -1,8 +1,18 @@
--- How a reader goes along: what each line adds to what the lines before it have made, and the first fault of what is left.
-use Rattle.std.specs.Prelude.{ℕ, ◌+◌, List, [], ◌∷◌, Option, Some, None}
+-- How a reader goes along: the pattern lines and the first fault of what is left, and what each line adds to what the lines before it have made.
+use Rattle.std.specs.Prelude.{ℕ, ◌+◌, List, [], ◌∷◌, ◌++◌, filter_map, Option, Some, None}
 use Rattle.std.specs.Option.{option_or}
 use Rattle.dt_lines.specs.Lines.{Line, logical_lines}
+use Rattle.dt_forms.specs.Patterns.{PatternLine, pattern_line}
 use Rattle.dt_forms.specs.Rules.{Broken, Fault, Scope, faults_of_line}
+
+-- the pattern lines among the lines of the file at this place
+abbrev pub pattern_lines_in : ℕ → List Line → List PatternLine
+pattern_lines_in file lines = filter_map (pattern_line file) lines
+
+-- those of files, of which the first has this place
+abbrev pub pattern_lines_from : ℕ → List (List ℕ) → List PatternLine
+pattern_lines_from file [] = []
+pattern_lines_from file (text ∷ texts) = pattern_lines_in file (logical_lines text) ++ pattern_lines_from (file + 1) texts
 
 -- what so many pattern lines have made
 abbrev pub scope_of : ℕ → Scope

@@ -3,10 +3,10 @@ use Rattle.std.specs.Prelude.{ℕ, ◌+◌, ◌-◌, ◌*◌, ◌^◌, ◌==◌,
 use Rattle.std.specs.List.{concat, list_all, list_any}
 use Rattle.dt_values.specs.Names.{is_name}
 use Rattle.dt_values.specs.Types.{is_text}
-use Rattle.dt_lines.specs.Lines.{Line, logical_lines}
+use Rattle.dt_lines.specs.Lines.{Line}
 use Rattle.dt_fields.specs.declared.rule.Rule.{Rule}
 use Rattle.dt_fields.specs.declared.rule.Rule.TheVariants as rule
-use Rattle.dt_forms.specs.Patterns.{PatternLine, fixed_digit, ignored_digit, number_of, pattern_line}
+use Rattle.dt_forms.specs.Patterns.{FileLine, all_lines, fixed_digit, ignored_digit, number_of, pattern_on}
 
 -- what a message names beside the rule: nothing, a token of the line or a name by its bytes, a number, or bits of the word
 pub data Detail : Type 0 where
@@ -101,27 +101,6 @@ pub record Fault : Type 0 where
 abbrev pub first : {A : Type 0} → List A → Option A
 first [] = None
 first (x ∷ xs) = Some x
-
--- a logical line with the place of its file among all files, from 0
-pub record FileLine : Type 0 where
-  pub file : ℕ
-  pub line : Line
-
-abbrev pub in_file : ℕ → Line → FileLine
-in_file file l = record { file = file; line = l }
-
--- the logical lines of files, of which the first has this place
-abbrev pub lines_of_files : ℕ → List (List ℕ) → List FileLine
-lines_of_files file [] = []
-lines_of_files file (text ∷ texts) = map (in_file file) (logical_lines text) ++ lines_of_files (file + 1) texts
-
--- those of all files, in order of file and line
-abbrev pub all_lines : List (List ℕ) → List FileLine
-all_lines texts = lines_of_files 0 texts
-
--- the pattern line that a line is, if it has tokens
-abbrev pub pattern_on : FileLine → Option PatternLine
-pattern_on l = pattern_line l.file l.line
 
 -- what the lines before a line have made: how many pattern lines are among them
 abbrev pub scope_before : List FileLine → Scope

@@ -8,8 +8,8 @@ ghost use Rattle.dt_lines.specs.Spans.{AreSpans, line_seen};
 ghost use Rattle.dt_forms.specs.declared.fault.ModelFault.TheVariants.{NoMemory};
 ghost use Rattle.dt_forms.specs.Models.{IsModelOf, formats_of, sets_of};
 ghost use Rattle.dt_forms.specs.Options.{IsOptionName};
-ghost use Rattle.dt_forms.specs.Patterns.{pattern_line, pattern_lines, pattern_lines_in};
-ghost use Rattle.dt_forms.specs.Reading.{after_line, after_lines, fault_in_lines, fault_or, scope_of};
+ghost use Rattle.dt_forms.specs.Patterns.{pattern_line, pattern_lines};
+ghost use Rattle.dt_forms.specs.Reading.{after_line, after_lines, fault_in_lines, fault_or, pattern_lines_in, scope_of};
 ghost use Rattle.dt_forms.specs.Rules.{Broken, Fault as FirstFault, faults_of_line, first_fault};
 ghost use Rattle.dt_forms.specs.Sound.{IsSound};
 ghost use Rattle.dt_forms.specs.Sources.{AreSources, IsSourceAt};
@@ -81,7 +81,7 @@ fn model_of(alloc: Global, options: &Options, patterns: Vec<Pattern>) -> Result<
 }
 
 // The patterns of all files, in order.
-#[tactic(auto, using(crate::proofs::ReadFiles::faults_at_start, crate::proofs::ReadFiles::patterns_more, crate::proofs::ReadFiles::faults_more, crate::proofs::ReadFiles::broken_here))]
+#[tactic(auto, using(crate::proofs::ReadFiles::patterns_at_start, crate::proofs::ReadFiles::faults_at_start, crate::proofs::ReadFiles::patterns_more, crate::proofs::ReadFiles::faults_more, crate::proofs::ReadFiles::broken_here))]
 fn read_files(alloc: Global, width: Width, files: &[Source]) -> Result<Vec<Pattern>, ModelFault>
     requires few { length files.now ≤ MOST_FILES }
     requires sources { AreSources files.now }

@@ -40,6 +40,7 @@ pub record AreFirstKnot (ps members : List Pattern) : Type 0 where
   pub first : IsFirstKnot ps places
   pub each : members ≡ map (pattern_at ps) places
 
+-- no rule is broken; the file is too large; a line breaks this rule first; these patterns are the first knot
 pub data Verdict : Type 0 where
   kept : Verdict
   too_large : Verdict

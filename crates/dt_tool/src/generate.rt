@@ -85,7 +85,7 @@ fn load<D: Folder>(alloc: Global, folder: &mut D, file: &str) -> Result<Vec<u8>,
     }
 }
 
-// A byte is below 256.
+// Bytes are below 256.
 fn law_bytes(bytes: &[u8])
     ensures { All (λ b. b < 256) bytes.now }
 {}

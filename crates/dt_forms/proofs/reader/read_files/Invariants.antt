@@ -1,7 +1,7 @@
 use Rattle.std.proofs.Common.{◌≡◌, ◌++◌, drop, map, vec_len}
 use Rattle.dt_values.specs.Widths.{width_bits}
-use Rattle.dt_forms.specs.Patterns.{pattern_lines, pattern_lines_from}
-use Rattle.dt_forms.specs.Reading.{fault_in_files, scope_of}
+use Rattle.dt_forms.specs.Patterns.{pattern_lines}
+use Rattle.dt_forms.specs.Reading.{fault_in_files, pattern_lines_from, scope_of}
 use Rattle.dt_forms.specs.Rules.{first_fault}
 use Rattle.dt_forms.specs.View.{kept_pattern, texts_of}
 use Rattle.dt_forms.proofs.reader.read_files.Given as goal

@@ -1,8 +1,7 @@
 use Rattle.std.proofs.Common.{◌≡◌, ◌++◌, drop, map, vec_len}
 use Rattle.dt_values.specs.Widths.{width_bits}
 use Rattle.dt_lines.specs.Spans.{line_seen}
-use Rattle.dt_forms.specs.Patterns.{pattern_lines_in}
-use Rattle.dt_forms.specs.Reading.{after_lines, fault_in_lines, scope_of}
+use Rattle.dt_forms.specs.Reading.{after_lines, fault_in_lines, pattern_lines_in, scope_of}
 use Rattle.dt_forms.specs.View.{kept_pattern}
 use Rattle.dt_forms.proofs.reader.read_lines.Given as goal
 
