@@ -107,6 +107,13 @@ fn run(
     })
 }
 
+/// A run of `gen t` in which nothing fails.
+fn generated(alloc: Global, text: &[u8], step: usize) -> Result<Ran, AllocError>
+    requires { 1 ≤ step }
+{
+    run(alloc, &["gen", "t"], text, step, NOTHING_FAILS)
+}
+
 /// `gen t` of this text ends with this number, writes and says these bytes, and leaves the file as it was.
 fn check_text(
     rt: &(impl Abort + AllocGlobal),
@@ -115,7 +122,7 @@ fn check_text(
     out: &[u8],
     err: &[u8],
 ) -> Result<(), AllocError> {
-    let ran = run(rt.alloc(), &["gen", "t"], text, 16, NOTHING_FAILS)?;
+    let ran = generated(rt.alloc(), text, 16)?;
     assert_eq!(rt;
         ran.status.number,
         number,
@@ -294,13 +301,7 @@ fn check_statements(
     text: &str,
     statements: &str,
 ) -> Result<(), Fail> {
-    let ran = run(
-        rt.alloc(),
-        &["gen", "t"],
-        text.as_bytes(),
-        16,
-        NOTHING_FAILS,
-    )?;
+    let ran = generated(rt.alloc(), text.as_bytes(), 16)?;
     assert_eq!(rt; ran.status, Status::of(Outcome::Done));
     let out = std::str::from_utf8(ran.out.bytes())?;
     let (_, found) = out.split_once("    } u;\n\n").ok_or("a union")?;
@@ -367,13 +368,7 @@ fn line_of_name(alloc: Global, len: usize) -> Result<String, AllocError> {
 fn names_have_up_to_128_bytes(rt: HostRuntime) -> Result<(), Fail> {
     for (len, number, said) in [(128, 0, ""), (129, 1, "t:1: error: K2 long name\n")] {
         let line = line_of_name(rt.alloc(), len)?;
-        let ran = run(
-            rt.alloc(),
-            &["gen", "t"],
-            line.as_bytes(),
-            16,
-            NOTHING_FAILS,
-        )?;
+        let ran = generated(rt.alloc(), line.as_bytes(), 16)?;
         assert_eq!(rt; ran.status.number, number);
         assert_eq!(rt; ran.err.bytes(), said.as_bytes());
     }
@@ -388,13 +383,7 @@ fn a_file_has_up_to_65535_lines(rt: HostRuntime) -> Result<(), Fail> {
     ];
     for (lines, number, said) in table {
         let text = vec![in rt.alloc(); b'\n'; lines]?;
-        let ran = run(
-            rt.alloc(),
-            &["gen", "t"],
-            text.as_slice(),
-            4096,
-            NOTHING_FAILS,
-        )?;
+        let ran = generated(rt.alloc(), text.as_slice(), 4096)?;
         assert_eq!(rt; ran.status.number, number);
         assert_eq!(rt; ran.err.bytes(), said.as_bytes());
     }
@@ -502,7 +491,7 @@ typedef arg_decode0 arg_a;
 static bool trans_a(DisasContext *ctx, arg_a *a);
 
 static void";
-    let ran = run(rt.alloc(), &["gen", "t"], text, 16, NOTHING_FAILS)?;
+    let ran = generated(rt.alloc(), text, 16)?;
     assert_eq!(rt; ran.status, Status::of(Outcome::Done));
     let out = std::str::from_utf8(ran.out.bytes())?;
     assert!(rt; out.contains(prototypes));
@@ -563,13 +552,7 @@ fn a_file_over_its_limit_is_refused(rt: HostRuntime) -> Result<(), Fail> {
     ];
     for (len, outcome, said, written) in table {
         let text = vec![in rt.alloc(); b' '; len]?;
-        let ran = run(
-            rt.alloc(),
-            &["gen", "t"],
-            text.as_slice(),
-            4096,
-            NOTHING_FAILS,
-        )?;
+        let ran = generated(rt.alloc(), text.as_slice(), 4096)?;
         assert_eq!(rt; ran.status, Status::of(outcome));
         assert_eq!(rt; ran.err.bytes(), said.as_bytes());
         assert_eq!(rt; ran.out.bytes(), written.as_bytes());
@@ -655,13 +638,7 @@ fn many_patterns_are_read_and_written_at_once(rt: HostRuntime) -> Result<(), Fai
     for word in 0..8192u32 {
         write!(text, "p{word} {word:032b}\n")?;
     }
-    let ran = run(
-        rt.alloc(),
-        &["gen", "t"],
-        text.as_bytes(),
-        4096,
-        NOTHING_FAILS,
-    )?;
+    let ran = generated(rt.alloc(), text.as_bytes(), 4096)?;
     assert_eq!(rt; ran.status, Status::of(Outcome::Done));
     let last = b"    if ((insn & 0xffffffff) == 0x00001fff) {
         /* 1:8192 */
@@ -682,13 +659,7 @@ fn a_pattern_too_many_is_refused_before_overlaps(rt: HostRuntime) -> Result<(), 
     for _ in 0..8193u32 {
         text.push_str("p --------------------------------\n")?;
     }
-    let ran = run(
-        rt.alloc(),
-        &["gen", "t"],
-        text.as_bytes(),
-        4096,
-        NOTHING_FAILS,
-    )?;
+    let ran = generated(rt.alloc(), text.as_bytes(), 4096)?;
     assert_eq!(rt; ran.status, Status::of(Outcome::Refused));
     assert_eq!(rt;
         ran.err.bytes(),
