@@ -7,6 +7,7 @@ use Rattle.std.proofs.lemmas.Str.{IsUtf8-from_ascii}
 use Rattle.std.proofs.lemmas.Bool.{and_parts}
 use Rattle.std.proofs.lemmas.Bool.Decides.{nat_tests}
 use Rattle.dt_values.specs.Names.{IsName, is_name_byte}
+use Rattle.dt_values.specs.declared.name.TheConstants.{LONGEST_NAME}
 
 name_byte_is_ascii : (b : ℕ) → is_name_byte b ≡ true → b < 128
 name_byte_is_ascii b h = grind (arith, nat_tests)
@@ -18,6 +19,6 @@ name_bytes_are_ascii (b ∷ bs) h (suc i) = name_bytes_are_ascii bs (and_parts (
 
 pub name_is_text : (bs : List ℕ) → IsName bs → IsUtf8 bs
 name_is_text bs h =
-    let p = and_parts (nat_lt 0 (length bs)) (nat_le (length bs) 128 && list_all is_name_byte bs) h in
-    let q = and_parts (nat_le (length bs) 128) (list_all is_name_byte bs) p.1 in
+    let p = and_parts (nat_lt 0 (length bs)) (nat_le (length bs) LONGEST_NAME && list_all is_name_byte bs) h in
+    let q = and_parts (nat_le (length bs) LONGEST_NAME) (list_all is_name_byte bs) p.1 in
     IsUtf8-from_ascii bs (name_bytes_are_ascii bs q.1)

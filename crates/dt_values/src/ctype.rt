@@ -83,6 +83,6 @@ pub struct Member {
 }
 
 /// The name of the type of a name is that name.
-pub fn names_of_types()
+pub fn law_names_of_types()
     ensures { (name : List ℕ) → type_name (type_of name) ≡ name }
 {}

@@ -8,7 +8,7 @@ ghost use Rattle.std.specs.Cmp.Lexicographic.{pointwise, nat_list_eq_equiv};
 ghost use Rattle.std.specs.Cmp.Rules.{hashing};
 ghost use Rattle.std.specs.Hash as fed;
 ghost use Rattle.std.proofs.Common.{rules};
-ghost use Rattle.dt_values.specs.Names.{IsName, is_name, is_name_byte, padded};
+ghost use Rattle.dt_values.specs.Names.{IsName, is_name, is_name_byte, name_array};
 
 use std::hash::{Hash, Hasher};
 use std::marker::Model;
@@ -20,21 +20,21 @@ pub const LONGEST_NAME: usize = 128;
 /// A name: 1 to 128 letters, digits and underscores, the language's name bytes. Contracts see the list of its bytes.
 #[derive(Clone, Copy, Debug)]
 pub struct Name {
-    bytes: [u8; 128],
+    bytes: [u8; LONGEST_NAME],
     len: u8,
 }
 
 impl Model for Name {
     ghost use Rattle.std.specs.Prelude.{◌≡◌, ℕ, List, ◌≤◌, ◌-◌, length, take};
-    ghost use Rattle.dt_values.specs.Names.{IsName, padded};
+    ghost use Rattle.dt_values.specs.Names.{IsName, name_array};
 
     ghost Value = { List ℕ };
 
     ghost view = { λ s. take s.len s.bytes };
 
-    ghost invariant = { λ s. IsName (take s.len s.bytes) × (length (take s.len s.bytes) ≡ s.len) × (padded (take s.len s.bytes) ≡ s.bytes) };
+    ghost invariant = { λ s. IsName (take s.len s.bytes) × (length (take s.len s.bytes) ≡ s.len) × (name_array (take s.len s.bytes) ≡ s.bytes) };
 
-    ghost inverse = { λ d. record { bytes = padded d; len = length d } };
+    ghost inverse = { λ d. record { bytes = name_array d; len = length d } };
 
     ghost inverse_ok = { λ s h i. record { bytes = h.2 i; len = h.1 i } };
 }
@@ -48,7 +48,7 @@ impl Name {
             return None;
         }
         Some(Name {
-            bytes: padded(bytes),
+            bytes: name_array(bytes),
             len: bytes.len() as u8,
         })
     }
@@ -88,11 +88,11 @@ pub fn is_name_byte(byte: u8) -> bool
 }
 
 // The bytes, and zeros behind them.
-fn padded(bytes: &[u8]) -> [u8; 128]
-    requires { length bytes.now ≤ 128 }
-    ensures { result ≡ padded bytes.now }
+fn name_array(bytes: &[u8]) -> [u8; LONGEST_NAME]
+    requires { length bytes.now ≤ LONGEST_NAME }
+    ensures { result ≡ name_array bytes.now }
 {
-    let mut kept = [0; 128];
+    let mut kept = [0; LONGEST_NAME];
     kept[..bytes.len()].copy_from_slice(bytes);
     kept
 }

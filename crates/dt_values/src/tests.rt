@@ -1,7 +1,7 @@
 //! Names, types and widths by example, and each public call once.
 
 use crate::name::is_name_byte;
-use crate::{CType, Member, Name, Width};
+use crate::{CType, Items, Member, Name, Width};
 use std::test::Fail;
 
 #[test]
@@ -51,4 +51,11 @@ fn widths_count_bits(rt: HostRuntime) {
     for (width, bits) in [(Width::W16, 16), (Width::W32, 32), (Width::W64, 64)] {
         assert_eq!(rt; width.bits(), bits);
     }
+}
+
+#[test]
+fn a_list_keeps_its_items(rt: HostRuntime) -> Result<(), Fail> {
+    let list = Items::of(vec![in rt.alloc(); 3u8, 1, 2]?);
+    assert_eq!(rt; list.items(), [3, 1, 2].as_slice());
+    Ok(())
 }
