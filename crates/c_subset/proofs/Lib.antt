@@ -1,6 +1,5 @@
 pub mod ByRules
 pub mod Bytes
-pub mod Digits
 pub mod Ends
 pub mod Lexing
 pub mod Once

@@ -2,7 +2,7 @@
 use Rattle.std.proofs.Common.{◌≡◌, ℕ, zero, suc, List, [], ◌∷◌, ◌++◌, replicate, Option, Some, None, option_map, refl, sym, ap, ◌∙◌, arith, append_assoc, append-nil}
 use Rattle.c_subset.specs.Tokens.{Token, mark, kind, Mode, between, in_word, after_equals, after_dash, after_slash, in_comment, after_star, Read, put, begin, in_word_step, step, read, and_then, ends, whole, tokens_of}
 use Rattle.c_subset.specs.Bytes.{Letters, IsWord}
-use Rattle.c_subset.specs.Pieces.{Piece, text, name, spaces, piece_text, pieces_text}
+use Rattle.dt_text.specs.Pieces.{Piece, text, name, spaces, piece_text, pieces_text}
 use Rattle.c_subset.proofs.Bytes.{letters_first, letters_rest}
 
 -- the names of pieces are words

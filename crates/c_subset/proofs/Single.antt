@@ -6,7 +6,7 @@ use Rattle.dt_values.specs.declared.width.Width.{Width}
 use Rattle.dt_values.specs.declared.width.Width.TheVariants.{W16, W32, W64}
 use Rattle.dt_values.specs.Widths.{width_bits}
 use Rattle.c_subset.specs.Tokens.{Token, word, mark}
-use Rattle.c_subset.specs.Programs.{Name, Pattern, Extraction, Prefix, Program, set_spelled, pattern_spelled, prototype_spelled, static_spelled, extract_spelled, first_parameter, word_type, all_spelled, union_set_spelled, union_spelled, decoder_head_spelled, decoder_end_spelled, decoder_spelled, prefix_of, spelling}
+use Rattle.c_subset.specs.Programs.{Name, Pattern, Extraction, Prefix, Program, set_spelled, pattern_spelled, prototype_spelled, static_spelled, extract_spelled, first_parameter, word_type, stmts_spelled, union_set_spelled, union_spelled, decoder_head_spelled, decoder_end_spelled, decoder_spelled, prefix_of, spelling}
 use Rattle.c_subset.specs.Keeps.{StmtsBelow, KeepsRules}
 use Rattle.c_subset.specs.Spells.{Spells}
 use Rattle.c_subset.proofs.Once.{first_word, differ, stmts_once}
@@ -209,12 +209,12 @@ programs_once p q h k is =
     let extracts = parts_once (extract_spelled p.width p.decoder) (extract_spelled q.width q.decoder) (AlikeExtracts p.decoder q.decoder) (extract_once p.width q.width p.decoder q.decoder) p.extracts q.extracts (decoder_spelled p) (decoder_spelled q) (extract_stops p.width p.decoder p.decoder_static _ q.width q.decoder) (extract_stops q.width q.decoder q.decoder_static _ p.width p.decoder) patterns.1 in
     let head = head_once p.width q.width p.decoder q.decoder p.decoder_static q.decoder_static _ _ extracts.1 in
     let same_patterns = patterns_back x y p.patterns q.patterns patterns.0 in
-    let union = union_once p.patterns p.union_sets q.union_sets _ _ (head.rest ∙ ap (λ ns. union_spelled ns q.union_sets ++ (all_spelled q.width q.decoder y.name q.body ++ decoder_end_spelled)) (sym same_patterns)) in
+    let union = union_once p.patterns p.union_sets q.union_sets _ _ (head.rest ∙ ap (λ ns. union_spelled ns q.union_sets ++ (stmts_spelled q.width q.decoder y.name q.body ++ decoder_end_spelled)) (sym same_patterns)) in
     let prefix = prefix_back p.prefix q.prefix p.patterns h.prefix_with_patterns (subst (λ ns. IsSome q.prefix ↔ (ns ≢ [])) (sym same_patterns) k.prefix_with_patterns) (one_prefix x y p.patterns q.patterns patterns.0) in
-    let bodies : all_spelled q.width q.decoder y.name p.body ++ decoder_end_spelled ≡ all_spelled q.width q.decoder y.name q.body ++ decoder_end_spelled =
-    ap (λ w. all_spelled w q.decoder y.name p.body ++ decoder_end_spelled) (sym head.width)
-    ∙ ap (λ d. all_spelled p.width d y.name p.body ++ decoder_end_spelled) (sym head.decoder)
-    ∙ ap (λ z. all_spelled p.width p.decoder (prefix_of z).name p.body ++ decoder_end_spelled) (sym prefix)
+    let bodies : stmts_spelled q.width q.decoder y.name p.body ++ decoder_end_spelled ≡ stmts_spelled q.width q.decoder y.name q.body ++ decoder_end_spelled =
+    ap (λ w. stmts_spelled w q.decoder y.name p.body ++ decoder_end_spelled) (sym head.width)
+    ∙ ap (λ d. stmts_spelled p.width d y.name p.body ++ decoder_end_spelled) (sym head.decoder)
+    ∙ ap (λ z. stmts_spelled p.width p.decoder (prefix_of z).name p.body ++ decoder_end_spelled) (sym prefix)
     ∙ union.1 in
     let below = subst (λ w. StmtsBelow (2 ^ width_bits w) p.body) head.width h.body_below in
     let body = stmts_once q.width q.decoder y.name p.body q.body decoder_end_spelled decoder_end_spelled below k.body_below refl refl bodies in

@@ -10,7 +10,8 @@ use Rattle.c_subset.specs.Bytes.{Letters, IsWord}
 use Rattle.c_subset.proofs.Bytes.{both_true, letters-append, letters-cons}
 use Rattle.dt_values.specs.declared.width.Width.{Width}
 use Rattle.dt_values.specs.declared.width.Width.TheVariants.{W16, W32, W64}
-use Rattle.c_subset.specs.Programs.{hex, hex_length, word_type}
+use Rattle.dt_text.specs.Hexadecimal.{hex}
+use Rattle.c_subset.specs.Programs.{hex_length, word_type}
 
 pub word-append : (a b : List ℕ) → IsWord a → Letters b → IsWord (a ++ b)
 word-append a b h k = record { some = omega (arith, length-append a b, h.some); letters = letters-append a b h.letters k }

@@ -5,5 +5,4 @@ pub mod Programs
 pub mod View
 pub mod Keeps
 pub mod Spells
-pub mod Pieces
 pub mod Examples

@@ -1,9 +1,9 @@
 -- Programs of the C subset, and how they are spelled in tokens (the C subset, docs/C_SUBSET.md).
-use Rattle.std.specs.Prelude.{ℕ, zero, suc, ◌/◌, ◌%◌, Bool, true, false, List, [], ◌∷◌, ◌++◌, Option, Some, None, flat_map, codes}
-use Rattle.std.specs.Fmt.{digit_glyph}
+use Rattle.std.specs.Prelude.{ℕ, ◌/◌, Bool, true, false, List, [], ◌∷◌, ◌++◌, Option, Some, None, flat_map, codes}
 use Rattle.dt_values.specs.declared.width.Width.{Width}
 use Rattle.dt_values.specs.declared.width.Width.TheVariants.{W16, W32, W64}
 use Rattle.dt_values.specs.Widths.{width_bits}
+use Rattle.dt_text.specs.Hexadecimal.{hex}
 use Rattle.c_subset.specs.Tokens.{Token, word, mark, double_equals}
 
 -- the single bytes that are spelled: ( ) { } ; , * & .
@@ -75,11 +75,6 @@ pub record Program : Type 0 where
   pub union_sets : List Name
   pub body : Stmts
 
--- the last k hexadecimal digits of n, in lower case
-unfoldable pub hex : ℕ → ℕ → List ℕ
-hex zero n = []
-hex (suc k) n = hex k (n / 16) ++ digit_glyph false (n % 16) ∷ []
-
 -- four bits a digit
 abbrev pub hex_length : Width → ℕ
 hex_length w = width_bits w / 4
@@ -150,14 +145,14 @@ call_spelled prefix n s = word (codes "if") ∷ open_round ∷ pattern_name pref
 
 -- statements, of the decoder and the prefix with these names
 abbrev mutual
-  pub spelled : Width → Name → Name → Stmt → List Token
-  spelled w d p (on_mask m v ss) = if_spelled w m v ++ (all_spelled w d p ss ++ close_brace ∷ [])
-  spelled w d p (extract x s) = extract_call_spelled d x s
-  spelled w d p (call n s) = call_spelled p n s
+  pub stmt_spelled : Width → Name → Name → Stmt → List Token
+  stmt_spelled w d p (on_mask m v ss) = if_spelled w m v ++ (stmts_spelled w d p ss ++ close_brace ∷ [])
+  stmt_spelled w d p (extract x s) = extract_call_spelled d x s
+  stmt_spelled w d p (call n s) = call_spelled p n s
 
-  pub all_spelled : Width → Name → Name → Stmts → List Token
-  all_spelled w d p done = []
-  all_spelled w d p (then s ss) = spelled w d p s ++ all_spelled w d p ss
+  pub stmts_spelled : Width → Name → Name → Stmts → List Token
+  stmts_spelled w d p done = []
+  stmts_spelled w d p (then s ss) = stmt_spelled w d p s ++ stmts_spelled w d p ss
 
 -- arg_S f_S;
 abbrev pub union_set_spelled : Name → List Token
@@ -187,7 +182,7 @@ abbrev pub decoder_spelled : Program → List Token
 decoder_spelled p =
     decoder_head_spelled p.width p.decoder p.decoder_static
     ++ (union_spelled p.patterns p.union_sets
-    ++ (all_spelled p.width p.decoder (prefix_of p.prefix).name p.body
+    ++ (stmts_spelled p.width p.decoder (prefix_of p.prefix).name p.body
     ++ decoder_end_spelled))
 
 unfoldable pub spelling : Program → List Token

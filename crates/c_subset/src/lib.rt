@@ -4,7 +4,7 @@
 pub mod laws;
 pub mod program;
 
-pub use program::{Body, Extract, Extracts, Names, Patterns, Program, Stmt};
+pub use program::{Body, Extract, ExtractList, NameList, PatternList, Program, Stmt};
 
 #[cfg(test)]
 mod tests;

@@ -4,7 +4,7 @@ ghost use Rattle.std.specs.Prelude.{◌≡◌, IfOk};
 ghost use Rattle.c_subset.specs.Examples.{nop_program};
 ghost use Rattle.c_subset.specs.View.{program_of};
 
-use crate::{Body, Extract, Extracts, Names, Patterns, Program, Stmt};
+use crate::{Body, Extract, ExtractList, NameList, PatternList, Program, Stmt};
 use dt_values::{Name, Width};
 use std::alloc::Global;
 use std::test::Fail;
@@ -26,13 +26,13 @@ fn one_pattern(alloc: Global) -> Result<Program, Fail>
     let inner = vec![in alloc; Stmt::Extract { format, set }, Stmt::Call { pattern, set }]?;
     Ok(Program {
         width: Width::W32,
-        sets: Names::of(vec![in alloc; set]?),
+        sets: NameList::of(vec![in alloc; set]?),
         prefix: Some((name(b"trans")?, true)),
-        patterns: Patterns::of(vec![in alloc; (pattern, set)]?),
-        extracts: Extracts::of(vec![in alloc; Extract { format, set }]?),
+        patterns: PatternList::of(vec![in alloc; (pattern, set)]?),
+        extracts: ExtractList::of(vec![in alloc; Extract { format, set }]?),
         decoder: name(b"decode")?,
         decoder_static: true,
-        union_sets: Names::of(vec![in alloc; set]?),
+        union_sets: NameList::of(vec![in alloc; set]?),
         body: Body::of(vec![in alloc; Stmt::If(0xffff_ffff, 0, inner)]?),
     })
 }

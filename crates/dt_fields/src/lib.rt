@@ -1,4 +1,4 @@
-//! Fields, argument sets, and the rules of pattern files: the types that the readers and the messages share.
+//! Fields, argument sets, and the rules of pattern files: what the readers and the messages share.
 #![tactic(auto)]
 
 pub mod field;
@@ -7,7 +7,7 @@ pub mod set;
 
 pub use field::{FieldDef, Segment, Segments};
 pub use rule::{Detail, Rule};
-pub use set::{Members, SetDef};
+pub use set::{MemberList, SetDef};
 
 #[cfg(test)]
 mod tests;

@@ -8,13 +8,13 @@ use Rattle.dt_forms.specs.declared.bits.Digits.TheVariants.{Fixed, Ones, Ignored
 use Rattle.dt_forms.specs.Digits.{digit_in}
 use Rattle.dt_forms.specs.Patterns.{number_of}
 
-doubled : (d n : ℕ) → d * 2 ^ suc n ≡ d * 2 ^ n * 2
-doubled d n = ap (λ m. d * m) (pow-suc 2 n) ∙ sym (mul_assoc d (2 ^ n) 2)
+power_times_two : (d n : ℕ) → d * 2 ^ suc n ≡ d * 2 ^ n * 2
+power_times_two d n = ap (λ m. d * m) (pow-suc 2 n) ∙ sym (mul_assoc d (2 ^ n) 2)
 
 pub number-push : (digit : ℕ → ℕ) (xs : List ℕ) (b : ℕ) → number_of digit (xs ++ b ∷ []) ≡ number_of digit xs * 2 + digit b
 number-push digit [] b = omega arith
 number-push digit (x ∷ xs) b =
-    let high : digit x * 2 ^ length (xs ++ b ∷ []) ≡ digit x * 2 ^ length xs * 2 = ap (λ n. digit x * 2 ^ n) (length_push xs b ∙ add-one (length xs)) ∙ doubled (digit x) (length xs) in
+    let high : digit x * 2 ^ length (xs ++ b ∷ []) ≡ digit x * 2 ^ length xs * 2 = ap (λ n. digit x * 2 ^ n) (length_push xs b ∙ add-one (length xs)) ∙ power_times_two (digit x) (length xs) in
     let low : number_of digit (xs ++ b ∷ []) ≡ number_of digit xs * 2 + digit b = number-push digit xs b in
     omega arith
 

@@ -5,7 +5,7 @@ use Rattle.std.specs.Option.{option_or}
 use Rattle.dt_lines.specs.Lines.{logical_lines}
 use Rattle.dt_forms.specs.declared.fault.ModelFault.{ModelFault}
 use Rattle.dt_forms.specs.declared.fault.ModelFault.TheVariants as faults
-use Rattle.dt_forms.specs.declared.form.Pattern.{Pattern as Kept}
+use Rattle.dt_forms.specs.declared.form.Pattern.{Pattern}
 use Rattle.dt_forms.specs.declared.source.Source.{Source}
 use Rattle.dt_forms.specs.Patterns.{PatternLine, pattern_lines}
 use Rattle.dt_forms.specs.Reading.{after_lines, fault_in_lines, fault_in_files, pattern_lines_from, pattern_lines_in, scope_of}
@@ -17,7 +17,7 @@ use Rattle.dt_forms.proofs.FilePatterns.{patterns_found}
 file_left : (files : List Source) (i : ℕ) (s d : Source) → i < length files → s ≡ get_or files i d → drop i files ≡ s ∷ drop (i + 1) files
 file_left files i s d h is = drop_more files i d h ∙ ap (λ x. x ∷ drop (i + 1) files) (sym is)
 
-pub patterns_more : (files : List Source) (i : ℕ) (s d : Source) (old new all : List Kept) → i < length files → s ≡ get_or files i d
+pub patterns_more : (files : List Source) (i : ℕ) (s d : Source) (old new all : List Pattern) → i < length files → s ≡ get_or files i d
     → new ≡ old ++ map kept_pattern (pattern_lines_in i (logical_lines s.bytes))
     → old ++ map kept_pattern (pattern_lines_from i (texts_of (drop i files))) ≡ all
     → new ++ map kept_pattern (pattern_lines_from (i + 1) (texts_of (drop (i + 1) files))) ≡ all
@@ -31,7 +31,7 @@ patterns_more files i s d old new all h is made before =
     ∙ before
 
 -- at the start all pattern lines are left
-pub patterns_at_start : (made : List Kept) (texts : List (List ℕ)) → made ≡ [] → made ++ map kept_pattern (pattern_lines_from 0 texts) ≡ map kept_pattern (pattern_lines texts)
+pub patterns_at_start : (made : List Pattern) (texts : List (List ℕ)) → made ≡ [] → made ++ map kept_pattern (pattern_lines_from 0 texts) ≡ map kept_pattern (pattern_lines texts)
 patterns_at_start made texts none = ap (λ ps. ps ++ map kept_pattern (pattern_lines_from 0 texts)) none ∙ ap (map kept_pattern) (patterns_found texts)
 
 -- and nothing is made

@@ -7,7 +7,7 @@ use Rattle.dt_lines.specs.Lines.{Line}
 use Rattle.dt_lines.specs.Spans.{line_seen}
 use Rattle.dt_lines.specs.declared.line.Logical.{Logical}
 use Rattle.dt_forms.specs.declared.fault.ModelFault.{ModelFault}
-use Rattle.dt_forms.specs.declared.form.Pattern.{Pattern as Kept}
+use Rattle.dt_forms.specs.declared.form.Pattern.{Pattern}
 use Rattle.dt_forms.specs.Patterns.{PatternLine, pattern_in, pattern_line}
 use Rattle.dt_forms.specs.Reading.{after_line, after_lines, after_tokens, fault_in_lines, fault_or, pattern_lines_in, scope_of}
 use Rattle.dt_forms.specs.Rules.{Fault, Scope, faults_of_line}
@@ -17,11 +17,11 @@ use Rattle.dt_forms.specs.View.{FileBroken, kept_pattern}
 line_left : (lines : List Logical) (i : ℕ) (l d : Logical) → i < length lines → l ≡ get_or lines i d → drop i lines ≡ l ∷ drop (i + 1) lines
 line_left lines i l d h is = drop_more lines i d h ∙ ap (λ x. x ∷ drop (i + 1) lines) (sym is)
 
-pushed : (old : List Kept) (o : Option PatternLine) (rest : List PatternLine) → (old ++ option_to_list (option_map kept_pattern o)) ++ map kept_pattern rest ≡ old ++ map kept_pattern (cons_option o rest)
-pushed old None rest = ap (λ ps. ps ++ map kept_pattern rest) (append-nil old)
-pushed old (Some p) rest = append_assoc old (kept_pattern p ∷ []) (map kept_pattern rest)
+push_last : (old : List Pattern) (o : Option PatternLine) (rest : List PatternLine) → (old ++ option_to_list (option_map kept_pattern o)) ++ map kept_pattern rest ≡ old ++ map kept_pattern (cons_option o rest)
+push_last old None rest = ap (λ ps. ps ++ map kept_pattern rest) (append-nil old)
+push_last old (Some p) rest = append_assoc old (kept_pattern p ∷ []) (map kept_pattern rest)
 
-pushed_count : (file number : ℕ) (tokens : List (List ℕ)) (old new : List Kept) (n m : ℕ) → n ≡ length old → m ≡ length new
+pushed_count : (file number : ℕ) (tokens : List (List ℕ)) (old new : List Pattern) (n m : ℕ) → n ≡ length old → m ≡ length new
     → new ≡ old ++ option_to_list (option_map kept_pattern (pattern_in file number tokens)) → after_tokens tokens (scope_of n) ≡ scope_of m
 pushed_count file number [] old new n m h k e =
     let same : length new ≡ length old + 0 = ap length e ∙ length-append old [] in
@@ -33,18 +33,18 @@ pushed_count file number (name ∷ tokens) old new n m h k e =
     ap scope_of count
 
 -- what a line makes is its pattern
-pub after_pushed : (file : ℕ) (l : Line) (old new : List Kept) (n m : ℕ) → n ≡ length old → m ≡ length new
+pub after_pushed : (file : ℕ) (l : Line) (old new : List Pattern) (n m : ℕ) → n ≡ length old → m ≡ length new
     → new ≡ old ++ option_to_list (option_map kept_pattern (pattern_line file l)) → after_line (scope_of n) l ≡ scope_of m
 after_pushed file l old new n m h k e = pushed_count file l.line l.tokens old new n m h k e
 
-pub patterns_more : (file : ℕ) (bytes : List ℕ) (lines : List Logical) (i : ℕ) (l d : Logical) (old new all : List Kept) → i < length lines → l ≡ get_or lines i d
+pub patterns_more : (file : ℕ) (bytes : List ℕ) (lines : List Logical) (i : ℕ) (l d : Logical) (old new all : List Pattern) → i < length lines → l ≡ get_or lines i d
     → new ≡ old ++ option_to_list (option_map kept_pattern (pattern_line file (line_seen bytes l)))
     → old ++ map kept_pattern (pattern_lines_in file (map (line_seen bytes) (drop i lines))) ≡ all
     → new ++ map kept_pattern (pattern_lines_in file (map (line_seen bytes) (drop (i + 1) lines))) ≡ all
 patterns_more file bytes lines i l d old new all h is made before =
     let left : List Logical → List PatternLine = λ ls. pattern_lines_in file (map (line_seen bytes) ls) in
     ap (λ ps. ps ++ map kept_pattern (left (drop (i + 1) lines))) made
-    ∙ pushed old (pattern_line file (line_seen bytes l)) (left (drop (i + 1) lines))
+    ∙ push_last old (pattern_line file (line_seen bytes l)) (left (drop (i + 1) lines))
     ∙ ap (λ ls. old ++ map kept_pattern (left ls)) (sym (line_left lines i l d h is))
     ∙ before
 

@@ -6,13 +6,14 @@ use Rattle.std.proofs.lemmas.List.Elements.{All-nil, All-append, All-head, All-t
 use Rattle.dt_lines.specs.Lines.{Line, logical_lines, physical_lines}
 use Rattle.dt_lines.proofs.Numbers.{LinesRise, logical_lines_rise, length-physical_lines}
 use Rattle.dt_forms.specs.declared.bits.Digits.TheVariants.{Ones}
+use Rattle.dt_forms.specs.declared.reader.TheConstants.{MOST_FILES}
 use Rattle.dt_forms.specs.Patterns.{PatternLine, one_digit, number_of, pattern_in, pattern_line, pattern_lines, pattern_of, flat_list}
 use Rattle.dt_forms.specs.Reading.{pattern_lines_in, pattern_lines_from}
 use Rattle.dt_forms.proofs.FilePatterns.{patterns_found}
 use Rattle.dt_forms.specs.Rules.{first_fault}
 use Rattle.dt_forms.specs.Sound.{IsSoundPattern}
 use Rattle.dt_forms.proofs.BinaryNumbers.{number_below}
-use Rattle.dt_forms.proofs.Kept.{HasWidth, HasName, with_line, all_width, all_named}
+use Rattle.dt_forms.proofs.UnbrokenLines.{HasWidth, HasName, with_line, all_width, all_named}
 use Rattle.dt_forms.proofs.Soundness.{line_masks}
 
 -- a pattern line of one of so many files, with a number that fits in 32 bits
@@ -38,23 +39,23 @@ files_placed files file (text ∷ texts) h short =
     (lines_placed files file 1 last (logical_lines text) (omega arith) (omega (arith, length-physical_lines text)) (logical_lines_rise text))
     (files_placed files (file + 1) texts (omega arith) (All-tail (λ t. length t < 2 ^ 32) text texts short))
 
-sound_pattern : (width : ℕ) (p : PatternLine) → HasWidth width p → HasName p → IsPlaced 16 p → IsSoundPattern width (pattern_of p)
+sound_pattern : (width : ℕ) (p : PatternLine) → HasWidth width p → HasName p → IsPlaced MOST_FILES p → IsSoundPattern width (pattern_of p)
 sound_pattern width p long named placed =
     let masks = line_masks width p long in
-    let file : p.file < 16 = placed.0 in
+    let file : p.file < MOST_FILES = placed.0 in
     record {
       named = named;
-      count = long;
+      bits = long;
       mask_below = masks.fixed_below;
-      bits_below = subst (λ n. number_of one_digit p.bits < 2 ^ n) long (number_below Ones p.bits);
+      bits_below = subst (λ n. number_of one_digit p.digits < 2 ^ n) long (number_below Ones p.digits);
       bits_in_mask = masks.bits_in_mask;
       file_below = omega arith;
       line_below = placed.1;
     }
 
-pub flat_list_sound : (width : ℕ) (texts : List (List ℕ)) → length texts ≤ 16 → All (λ t. length t < 2 ^ 32) texts → first_fault width texts ≡ None → All (IsSoundPattern width) (flat_list texts)
+pub flat_list_sound : (width : ℕ) (texts : List (List ℕ)) → length texts ≤ MOST_FILES → All (λ t. length t < 2 ^ 32) texts → first_fault width texts ≡ None → All (IsSoundPattern width) (flat_list texts)
 flat_list_sound width texts few short none =
     let wide : All (HasWidth width) (pattern_lines texts) = all_width width texts none in
     let named : All HasName (pattern_lines texts) = all_named width texts none in
-    let placed : All (IsPlaced 16) (pattern_lines texts) = subst (All (IsPlaced 16)) (patterns_found texts) (files_placed 16 0 texts (omega arith) short) in
+    let placed : All (IsPlaced MOST_FILES) (pattern_lines texts) = subst (All (IsPlaced MOST_FILES)) (patterns_found texts) (files_placed MOST_FILES 0 texts (omega arith) short) in
     All-map (IsSoundPattern width) pattern_of (pattern_lines texts) (λ k d below. sound_pattern width (get_or (pattern_lines texts) k d) (wide k d below) (named k d below) (placed k d below))

@@ -1,9 +1,12 @@
+pub mod CNames
 pub mod Options
 pub mod Patterns
 pub mod Rules
 pub mod Reading
 pub mod View
 pub mod Trees
+pub mod FileFaults
+pub mod Positions
 pub mod Sources
 pub mod Models
 pub mod Sound

@@ -1,21 +1,11 @@
--- The names that a command line may give: of the decoder, and before the translators' names (docs/devel/decodetree.rst, "--decode" and "--translate").
-use Rattle.std.specs.Prelude.{ℕ, Bool, false, IsTrue, List, [], ◌∷◌, ◌==◌, ◌||◌, nat_le, not, length, codes}
+-- What a command line may give (docs/devel/decodetree.rst, "--decode" and "--translate").
+use Rattle.std.specs.Prelude.{ℕ, ◌≡◌, Bool, true, false, IsTrue, List, [], ◌∷◌, ◌==◌, ◌||◌, nat_le, not, length, codes}
 use Rattle.std.specs.Char.{is_ascii_alphabetic}
-use Rattle.std.specs.List.{list_all, list_any}
+use Rattle.std.specs.List.{list_all}
 use Rattle.dt_values.specs.Names.{is_name_byte}
-use Rattle.dt_values.specs.Types.{is_text}
-
--- the keywords of C (C17, 6.4.1) without those that begin with an underscore
-abbrev pub keywords : List (List ℕ)
-keywords =
-    codes "auto" ∷ codes "break" ∷ codes "case" ∷ codes "char" ∷ codes "const" ∷ codes "continue" ∷ codes "default" ∷ codes "do"
-    ∷ codes "double" ∷ codes "else" ∷ codes "enum" ∷ codes "extern" ∷ codes "float" ∷ codes "for" ∷ codes "goto" ∷ codes "if"
-    ∷ codes "inline" ∷ codes "int" ∷ codes "long" ∷ codes "register" ∷ codes "restrict" ∷ codes "return" ∷ codes "short" ∷ codes "signed"
-    ∷ codes "sizeof" ∷ codes "static" ∷ codes "struct" ∷ codes "switch" ∷ codes "typedef" ∷ codes "union" ∷ codes "unsigned" ∷ codes "void"
-    ∷ codes "volatile" ∷ codes "while" ∷ []
-
-abbrev pub is_keyword : List ℕ → Bool
-is_keyword name = list_any (is_text name) keywords
+use Rattle.dt_values.specs.declared.width.Width.TheVariants.{W32}
+use Rattle.dt_forms.specs.CNames.{is_keyword}
+use Rattle.dt_forms.specs.declared.options.Options.{Options}
 
 -- a letter or an underscore, and then name bytes
 abbrev pub begins_as_name : List ℕ → Bool
@@ -28,3 +18,20 @@ pub record IsOptionName (name : List ℕ) : Type 0 where
   pub name_bytes : IsTrue (list_all is_name_byte name)
   pub short : IsTrue (nat_le (length name) 100)
   pub no_keyword : IsTrue (not (is_keyword name))
+
+-- options that a reader takes: words of one width, and names that C text can have
+pub record IsOptions (options : Options) : Type 0 where
+  pub fixed : options.variable ≡ false
+  pub decode : IsOptionName options.decode
+  pub translate : IsOptionName options.translate
+
+-- what holds where no word says otherwise
+abbrev pub default_options : Options
+default_options = record {
+  width = W32;
+  variable = false;
+  decode = codes "decode";
+  decode_static = true;
+  translate = codes "trans";
+  translate_static = true;
+}

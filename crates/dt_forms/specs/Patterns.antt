@@ -1,29 +1,37 @@
 -- The patterns of pattern files, in file order: docs/devel/decodetree.rst, "Patterns", for lines of a name and bits.
-use Rattle.std.specs.Prelude.{ℕ, ◌+◌, ◌*◌, ◌^◌, ◌==◌, ◌||◌, Bool, IsTrue, List, [], ◌∷◌, ◌++◌, length, map, filter_map, Option, Some, None, bit_and, if◌then◌else◌}
+use Rattle.std.specs.Prelude.{ℕ, ◌+◌, ◌*◌, ◌^◌, ◌==◌, ◌||◌, Bool, IsTrue, bit_and, if◌then◌else◌}
+use Rattle.std.specs.Prelude.{List, [], ◌∷◌, ◌++◌, length, map, filter_map, Option, Some, None}
 use Rattle.std.specs.List.{concat}
 use Rattle.dt_lines.specs.Lines.{Line, logical_lines}
+use Rattle.dt_lines.specs.declared.line.Position.{Position}
 
--- a pattern line: the place of its file among all files, from 0, its number, its name, and its bits as they are written, those of all its tokens joined
+-- a pattern line: the place of its file among all files, from 0, its number, its name, and its bits as they are
+-- written: the bytes of all its further tokens
 pub record PatternLine : Type 0 where
   pub file : ℕ
   pub line : ℕ
   pub name : List ℕ
-  pub bits : List ℕ
+  pub digits : List ℕ
 
--- a pattern: its name; the place of its file, from 0, and its line; how many bits it has; the bits that it fixes, and to what
-pub record Pattern : Type 0 where
+-- a pattern of the flat list: its name; the place of its file, from 0, and its line; how many bits it has; the mask of
+-- the bits that it fixes, and their value
+pub record FlatPattern : Type 0 where
   pub name : List ℕ
   pub file : ℕ
   pub line : ℕ
-  pub count : ℕ
-  pub mask : ℕ
   pub bits : ℕ
+  pub fixed_mask : ℕ
+  pub fixed_bits : ℕ
 
--- a pattern matches the words that have its bits under its mask
-abbrev pub matches : Pattern → ℕ → Bool
-matches p word = bit_and word p.mask == p.bits
+-- where a pattern stands in the files
+abbrev pub position_of : FlatPattern → Position
+position_of p = record { file = p.file; line = p.line }
 
-abbrev pub Matches : Pattern → ℕ → Type 0
+-- a pattern matches the words that have its fixed bits under its mask
+abbrev pub matches : FlatPattern → ℕ → Bool
+matches p word = bit_and word p.fixed_mask == p.fixed_bits
+
+abbrev pub Matches : FlatPattern → ℕ → Type 0
 Matches p word = IsTrue (matches p word)
 
 -- a byte 0 or 1 fixes its bit, and a dash has it ignored
@@ -44,7 +52,8 @@ number_of digit (b ∷ bs) = digit b * 2 ^ length bs + number_of digit bs
 -- the pattern line that tokens are. No tokens are none.
 abbrev pub pattern_in : ℕ → ℕ → List (List ℕ) → Option PatternLine
 pattern_in file number [] = None
-pattern_in file number (name ∷ tokens) = Some (record { file = file; line = number; name = name; bits = concat tokens })
+pattern_in file number (name ∷ tokens) =
+    Some (record { file = file; line = number; name = name; digits = concat tokens })
 
 abbrev pub pattern_line : ℕ → Line → Option PatternLine
 pattern_line file l = pattern_in file l.line l.tokens
@@ -74,10 +83,17 @@ pattern_on l = pattern_line l.file l.line
 abbrev pub pattern_lines : List (List ℕ) → List PatternLine
 pattern_lines texts = filter_map pattern_on (all_lines texts)
 
--- what a line's bits fix
-abbrev pub pattern_of : PatternLine → Pattern
-pattern_of p = record { name = p.name; file = p.file; line = p.line; count = length p.bits; mask = number_of fixed_digit p.bits; bits = number_of one_digit p.bits }
+-- what a line's digits fix
+abbrev pub pattern_of : PatternLine → FlatPattern
+pattern_of p = record {
+  name = p.name;
+  file = p.file;
+  line = p.line;
+  bits = length p.digits;
+  fixed_mask = number_of fixed_digit p.digits;
+  fixed_bits = number_of one_digit p.digits;
+}
 
 -- the patterns of files, where no line is broken
-abbrev pub flat_list : List (List ℕ) → List Pattern
+abbrev pub flat_list : List (List ℕ) → List FlatPattern
 flat_list texts = map pattern_of (pattern_lines texts)

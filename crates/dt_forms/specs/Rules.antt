@@ -6,6 +6,7 @@ use Rattle.dt_values.specs.Types.{is_text}
 use Rattle.dt_lines.specs.Lines.{Line}
 use Rattle.dt_fields.specs.declared.rule.Rule.{Rule}
 use Rattle.dt_fields.specs.declared.rule.Rule.TheVariants as rule
+use Rattle.dt_forms.specs.declared.reader.TheConstants.{MOST_PATTERNS}
 use Rattle.dt_forms.specs.Patterns.{FileLine, all_lines, fixed_digit, ignored_digit, number_of, pattern_on}
 
 -- what a message names beside the rule: nothing, a token of the line or a name by its bytes, a number, or bits of the word
@@ -53,9 +54,9 @@ is_not_built first tokens = is_group_mark first || (defines first || list_any is
 abbrev pub is_indented : ℕ → Bool
 is_indented indent = not (indent == 0)
 
--- L9: 8,192 patterns came before
+-- L9: as many patterns as may be came before
 abbrev pub is_full : Scope → Bool
-is_full scope = scope.patterns == 8192
+is_full scope = scope.patterns == MOST_PATTERNS
 
 -- what comes before the rules of the tokens behind the first one
 abbrev pub head_faults : Scope → ℕ → List ℕ → List (List ℕ) → List Broken

@@ -1,13 +1,19 @@
--- What holds of every model that is read of pattern files, and of every pattern of their flat list. IsSound leaves out the rules of fields, constants and types, and of references between arguments: a model has no such parts yet.
-use Rattle.std.specs.Prelude.{◌≡◌, ◌≢◌, ◌+◌, ◌<◌, ◌≤◌, ◌^◌, ◌⊎◌, ℕ, max, List, [], ◌∷◌, ◌++◌, length, get_or, map, bit_and, All, AllPairs, IsPermutation}
+-- What holds of every model that is read of pattern files, and of every pattern of their flat list.
+use Rattle.std.specs.Prelude.{◌≡◌, ◌≢◌, ◌+◌, ◌<◌, ◌≤◌, ◌^◌, ◌⊎◌, ℕ, max, bit_and}
+use Rattle.std.specs.Prelude.{List, [], ◌∷◌, ◌++◌, length, get_or, map, All, AllPairs, IsPermutation}
 use Rattle.dt_values.specs.Names.{IsName}
 use Rattle.dt_values.specs.Widths.{width_bits}
+use Rattle.dt_lines.specs.declared.line.Position.{Position}
 use Rattle.dt_fields.specs.declared.set.SetDef.{SetDef}
 use Rattle.dt_forms.specs.declared.form.Format.{Format}
-use Rattle.dt_forms.specs.declared.form.Pattern.{Pattern as Kept}
+use Rattle.dt_forms.specs.declared.form.Pattern.{Pattern}
 use Rattle.dt_forms.specs.declared.model.Model.{Model}
-use Rattle.dt_forms.specs.Patterns.{Pattern}
-use Rattle.dt_forms.specs.Trees.{Item, one, overlap, exclusive, Cluster, cluster, Items, no_item, item, items_of, numbers_of, numbers_from}
+use Rattle.dt_forms.specs.declared.reader.TheConstants.{MOST_PATTERNS}
+use Rattle.dt_forms.specs.CNames.{IsCName}
+use Rattle.dt_forms.specs.Patterns.{FlatPattern, position_of}
+use Rattle.dt_forms.specs.Trees.{Item, one, overlap, exclusive, Cluster, cluster, Items, no_item, item}
+use Rattle.dt_forms.specs.Trees.{items_of, numbers_of, numbers_from}
+use Rattle.dt_forms.specs.View.{pattern_seen}
 
 -- fixed and ignored masks of words of so many bits: they share no bit, and what is fixed lies in its mask
 pub record AreMasks (width fixed_bits fixed_mask ignored : ℕ) : Type 0 where
@@ -16,44 +22,42 @@ pub record AreMasks (width fixed_bits fixed_mask ignored : ℕ) : Type 0 where
   pub bits_in_mask : bit_and fixed_bits fixed_mask ≡ fixed_bits
   pub apart : bit_and fixed_mask ignored ≡ 0
 
-abbrev pub HasMasks : ℕ → Kept → Type 0
+abbrev pub HasMasks : ℕ → Pattern → Type 0
 HasMasks width p = AreMasks width p.fixed_bits p.fixed_mask p.ignored
 
 abbrev pub FormatHasMasks : ℕ → Format → Type 0
 FormatHasMasks width f = AreMasks width f.fixed_bits f.fixed_mask f.ignored
 
--- a place in the files: a file by its number among all files, from 0, and a line
-pub record Place : Type 0 where
-  pub file : ℕ
-  pub line : ℕ
-
--- a place comes before another: in an earlier file, or in the same file on an earlier line
-abbrev pub IsEarlier : Place → Place → Type 0
+-- a position comes before another: in an earlier file, or in the same file on an earlier line
+abbrev pub IsEarlier : Position → Position → Type 0
 IsEarlier a b = (a.file < b.file) ⊎ ((a.file ≡ b.file) × (a.line < b.line))
 
--- the place of a pattern's line
-abbrev pub place_of : Kept → Place
-place_of p = record { file = p.file; line = p.line }
+-- the position of a pattern's line
+abbrev pub pattern_position : Pattern → Position
+pattern_position p = position_of (pattern_seen p)
 
 -- a pattern stands before another
-abbrev pub IsBefore : Kept → Kept → Type 0
-IsBefore p q = IsEarlier (place_of p) (place_of q)
+abbrev pub IsBefore : Pattern → Pattern → Type 0
+IsBefore p q = IsEarlier (pattern_position p) (pattern_position q)
 
--- the places of entries, from left to right: that of a pattern by its number, and a group's own before those of its entries
+-- the positions of entries, from left to right: that of a pattern by its number, and a group's own before those of its
+-- entries
 abbrev mutual
-  pub item_places : List Kept → Item → List Place
-  item_places patterns (one n) = get_or (map place_of patterns) n (record { file = 0; line = 0 }) ∷ []
-  item_places patterns (overlap c) = cluster_places patterns c
-  item_places patterns (exclusive c) = cluster_places patterns c
+  pub item_positions : List Pattern → Item → List Position
+  item_positions patterns (one n) = get_or (map pattern_position patterns) n (record { file = 0; line = 0 }) ∷ []
+  item_positions patterns (overlap c) = cluster_positions patterns c
+  item_positions patterns (exclusive c) = cluster_positions patterns c
 
-  pub cluster_places : List Kept → Cluster → List Place
-  cluster_places patterns (cluster file line is) = record { file = file; line = line } ∷ places_of patterns is
+  pub cluster_positions : List Pattern → Cluster → List Position
+  cluster_positions patterns (cluster file line is) =
+      record { file = file; line = line } ∷ positions_of patterns is
 
-  pub places_of : List Kept → Items → List Place
-  places_of patterns no_item = []
-  places_of patterns (item i is) = item_places patterns i ++ places_of patterns is
+  pub positions_of : List Pattern → Items → List Position
+  positions_of patterns no_item = []
+  positions_of patterns (item i is) = item_positions patterns i ++ positions_of patterns is
 
--- how deep groups nest: a pattern has no depth, a group one more than the entries in it, and entries that of the deepest
+-- how deep groups nest: a pattern has no depth, a group one more than the entries in it, and entries that of the
+-- deepest
 abbrev mutual
   pub item_depth : Item → ℕ
   item_depth (one n) = 0
@@ -68,17 +72,38 @@ abbrev mutual
   depth (item i is) = max (item_depth i) (depth is)
 
 -- the number of a pattern's set
-abbrev pub set_number : List Format → Kept → ℕ
+abbrev pub set_number : List Format → Pattern → ℕ
 set_number formats p = get_or (map (λ f. f.set) formats) p.format 0
 
 -- the names of the arguments of a pattern's set
-abbrev pub argument_names : List SetDef → List Format → Kept → List (List ℕ)
+abbrev pub argument_names : List SetDef → List Format → Pattern → List (List ℕ)
 argument_names sets formats p = map (λ m. m.name) (get_or (map (λ s. s.members) sets) (set_number formats p) [])
 
 -- the names that a pattern gives a value: those of its format, then its own
-abbrev pub given_names : List Format → Kept → List (List ℕ)
+abbrev pub given_names : List Format → Pattern → List (List ℕ)
 given_names formats p = map (λ v. v.0) (get_or (map (λ f. f.values) formats) p.format [] ++ p.values)
 
+-- a pattern gives each argument of its set a value, once
+abbrev pub GivesArguments : List SetDef → List Format → Pattern → Type 0
+GivesArguments sets formats p = IsPermutation (given_names formats p) (argument_names sets formats p)
+
+-- patterns of one name have one set
+abbrev pub HaveOneSet : List Format → Pattern → Pattern → Type 0
+HaveOneSet formats p q = p.name ≡ q.name → set_number formats p ≡ set_number formats q
+
+-- a pattern of words of so many bits, of files that break no rule of lines: a name, a mask and bits below 2 ^ width, no
+-- bit outside the mask, and a file and a line that fit in 16 and 32 bits
+pub record IsSoundPattern (width : ℕ) (p : FlatPattern) : Type 0 where
+  pub named : IsName p.name
+  pub bits : p.bits ≡ width
+  pub mask_below : p.fixed_mask < 2 ^ width
+  pub bits_below : p.fixed_bits < 2 ^ width
+  pub bits_in_mask : bit_and p.fixed_bits p.fixed_mask ≡ p.fixed_bits
+  pub file_below : p.file < 2 ^ 16
+  pub line_below : p.line < 2 ^ 32
+
+-- The rules of fields, constants and types, and of references between arguments, aren't here: a model has no such parts
+-- yet.
 pub record IsSound (model : Model) : Type 0 where
   pub masks : All (HasMasks (width_bits model.width)) model.patterns
   pub format_masks : All (FormatHasMasks (width_bits model.width)) model.formats
@@ -86,24 +111,18 @@ pub record IsSound (model : Model) : Type 0 where
   pub format_numbers : All (λ p. p.format < length model.formats) model.patterns
   pub pattern_numbers : All (λ n. n < length model.patterns) (numbers_of (items_of model.entries))
   pub each_once : numbers_of (items_of model.entries) ≡ numbers_from 0 (length model.patterns)
-  pub few : length model.patterns ≤ 8192
+  pub few : length model.patterns ≤ MOST_PATTERNS
   pub few_arguments : All (λ s. length s.members ≤ 32) model.sets
   pub nested : depth (items_of model.entries) ≤ 16
-  pub places : AllPairs IsBefore model.patterns
+  pub positions : AllPairs IsBefore model.patterns
   pub whole_words : All (λ p. p.bits ≡ width_bits model.width) model.patterns
+  pub flat_sound : All (IsSoundPattern (width_bits model.width)) (map pattern_seen model.patterns)
+  pub sets_named : All (λ s. IsName s.name) model.sets
   pub set_names : AllPairs (λ s t. s.name ≢ t.name) model.sets
+  pub formats_named : All (λ f. IsName f.name) model.formats
   pub format_names : AllPairs (λ f g. f.name ≢ g.name) model.formats
-  pub one_set : AllPairs (λ p q. p.name ≡ q.name → set_number model.formats p ≡ set_number model.formats q) model.patterns
+  pub one_set : AllPairs (HaveOneSet model.formats) model.patterns
   pub different_arguments : All (λ s. AllPairs (λ a b. a.name ≢ b.name) s.members) model.sets
-  pub values : All (λ p. IsPermutation (given_names model.formats p) (argument_names model.sets model.formats p)) model.patterns
-  pub entry_places : AllPairs IsEarlier (places_of model.patterns (items_of model.entries))
-
--- a pattern of words of so many bits, of files that break no rule of lines: a name, a mask and bits below 2 ^ width, no bit outside the mask, and a file and a line that fit in 16 and 32 bits
-pub record IsSoundPattern (width : ℕ) (p : Pattern) : Type 0 where
-  pub named : IsName p.name
-  pub count : p.count ≡ width
-  pub mask_below : p.mask < 2 ^ width
-  pub bits_below : p.bits < 2 ^ width
-  pub bits_in_mask : bit_and p.bits p.mask ≡ p.bits
-  pub file_below : p.file < 2 ^ 16
-  pub line_below : p.line < 2 ^ 32
+  pub c_names : All (λ s. All (λ m. IsCName m.name) s.members) model.sets
+  pub values : All (GivesArguments model.sets model.formats) model.patterns
+  pub entry_positions : AllPairs IsEarlier (positions_of model.patterns (items_of model.entries))

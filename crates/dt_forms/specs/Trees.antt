@@ -2,9 +2,10 @@
 use Rattle.std.specs.Prelude.{ℕ, suc, zero, ◌+◌, List, [], ◌∷◌, ◌++◌, length, map}
 use Rattle.dt_forms.specs.declared.entry.Entry.{Entry, fold-Entry}
 use Rattle.dt_forms.specs.declared.entry.Entry.TheOpen.{Entry-F, Group-F}
-use Rattle.dt_forms.specs.Patterns.{Pattern}
+use Rattle.dt_forms.specs.Patterns.{FlatPattern}
 
--- a pattern by its number in the flat list, a group in braces or brackets; a group has its file, its line and its entries
+-- a pattern by its number in the flat list, a group in braces or brackets; a group has its file, its line and its
+-- entries
 mutual
   pub data Item : Type 0 where
     one : ℕ → Item
@@ -57,5 +58,5 @@ numbers_from start zero = []
 numbers_from start (suc n) = start ∷ numbers_from (start + 1) n
 
 -- the entries of files without groups: each pattern by itself, in order
-abbrev pub entries_of : List Pattern → Items
+abbrev pub entries_of : List FlatPattern → Items
 entries_of ps = items_from (map one (numbers_from 0 (length ps)))

@@ -4,9 +4,9 @@ use Rattle.dt_lines.specs.Spans.{text_at, IsWithin}
 use Rattle.dt_fields.specs.declared.rule.Rule.{Rule}
 use Rattle.dt_fields.specs.declared.rule.Detail.{Detail as Made}
 use Rattle.dt_fields.specs.declared.rule.Detail.TheVariants as details
-use Rattle.dt_forms.specs.Patterns.{Pattern, PatternLine, number_of, fixed_digit, one_digit, ignored_digit}
+use Rattle.dt_forms.specs.Patterns.{FlatPattern, PatternLine, number_of, fixed_digit, one_digit, ignored_digit}
 use Rattle.dt_forms.specs.Rules.{Broken, Detail, nothing, token, named, number, mask, Fault, first}
-use Rattle.dt_forms.specs.declared.form.Pattern.{Pattern as Kept}
+use Rattle.dt_forms.specs.declared.form.Pattern.{Pattern}
 use Rattle.dt_forms.specs.declared.source.Source.{Source}
 use Rattle.dt_forms.specs.declared.fault.ModelFault.{ModelFault}
 use Rattle.dt_forms.specs.declared.fault.ModelFault.TheVariants as faults
@@ -15,12 +15,29 @@ use Rattle.dt_forms.specs.declared.line.LineFault.{LineFault}
 use Rattle.dt_forms.specs.declared.line.LineFault.TheVariants as line_faults
 
 -- a model's pattern as one of the flat list
-abbrev pub pattern_seen : Kept → Pattern
-pattern_seen p = record { name = p.name; file = p.file; line = p.line; count = p.bits; mask = p.fixed_mask; bits = p.fixed_bits }
+abbrev pub pattern_seen : Pattern → FlatPattern
+pattern_seen p = record {
+  name = p.name;
+  file = p.file;
+  line = p.line;
+  bits = p.bits;
+  fixed_mask = p.fixed_mask;
+  fixed_bits = p.fixed_bits;
+}
 
 -- a line's pattern as a model keeps it: of the first format, and without values
-abbrev pub kept_pattern : PatternLine → Kept
-kept_pattern p = record { name = p.name; file = p.file; line = p.line; format = 0; bits = length p.bits; fixed_bits = number_of one_digit p.bits; fixed_mask = number_of fixed_digit p.bits; ignored = number_of ignored_digit p.bits; values = [] }
+abbrev pub kept_pattern : PatternLine → Pattern
+kept_pattern p = record {
+  name = p.name;
+  file = p.file;
+  line = p.line;
+  format = 0;
+  bits = length p.digits;
+  fixed_bits = number_of one_digit p.digits;
+  fixed_mask = number_of fixed_digit p.digits;
+  ignored = number_of ignored_digit p.digits;
+  values = [];
+}
 
 -- a detail, with the bytes of its token in the place of its span
 abbrev pub detail_seen : List ℕ → Made → Detail

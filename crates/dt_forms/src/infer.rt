@@ -11,13 +11,13 @@ ghost use Rattle.dt_forms.specs.View.{pattern_seen};
 
 use crate::entry::Entry;
 use crate::form::{Format, Pattern};
-use crate::value::Values;
-use dt_fields::{Members, SetDef};
+use crate::value::ValueList;
+use dt_fields::{MemberList, SetDef};
 use dt_values::{Name, Width};
 use std::alloc::{AllocError, Global};
 
 /// The set that patterns of bits alone share, where there is a pattern.
-#[tactic(auto, using(crate::proofs::Inferred::sets_of_none, crate::proofs::Inferred::sets_of_some))]
+#[tactic(auto, using(crate::proofs::InferredParts::sets_of_none, crate::proofs::InferredParts::sets_of_some))]
 pub fn sets_of(alloc: Global, decode: Name, patterns: &[Pattern]) -> Result<Vec<SetDef>, AllocError>
     requires { IsOptionName decode }
     ensures { IfOk result (λ sets. sets.items ≡ sets_of decode (map pattern_seen patterns.now)) }
@@ -28,14 +28,14 @@ pub fn sets_of(alloc: Global, decode: Name, patterns: &[Pattern]) -> Result<Vec<
     }
     sets.push(SetDef {
         name: inferred_name(alloc, decode, b"0")?,
-        members: Members::of(Vec::new(alloc)),
+        members: MemberList::of(Vec::new(alloc)),
         outside: false,
     })?;
     Ok(sets)
 }
 
 /// The format that they share.
-#[tactic(auto, using(crate::proofs::Inferred::formats_of_none, crate::proofs::Inferred::formats_of_some))]
+#[tactic(auto, using(crate::proofs::InferredParts::formats_of_none, crate::proofs::InferredParts::formats_of_some))]
 pub fn formats_of(
     alloc: Global,
     decode: Name,
@@ -56,7 +56,7 @@ pub fn formats_of(
         fixed_bits: 0,
         fixed_mask: 0,
         ignored: 0,
-        values: Values::of(Vec::new(alloc)),
+        values: ValueList::of(Vec::new(alloc)),
     })?;
     Ok(formats)
 }

@@ -10,6 +10,7 @@ pub mod laws;
 mod line;
 pub mod model;
 pub mod options;
+pub mod position;
 pub mod reader;
 pub mod source;
 pub mod value;
@@ -19,9 +20,10 @@ pub use fault::{Fault, ModelFault};
 pub use form::{Format, FormatList, Pattern, PatternList};
 pub use model::{Model, SetList};
 pub use options::Options;
+pub use position::first_token;
 pub use reader::{MOST_FILES, MOST_PATTERNS, read_model};
-pub use source::{Bytes, Lines, Source};
-pub use value::{FieldValue, Values};
+pub use source::{ByteList, LineList, Source};
+pub use value::{FieldValue, ValueList};
 
 #[cfg(test)]
 mod tests;

@@ -13,7 +13,7 @@ ghost use Rattle.dt_forms.specs.View.{LineBroken, kept_pattern};
 use crate::bits::{Digits, all_bits, number_of};
 use crate::form::Pattern;
 use crate::reader::MOST_PATTERNS;
-use crate::value::Values;
+use crate::value::ValueList;
 use dt_fields::{Detail, Rule};
 use dt_lines::Span;
 use dt_values::{Name, Width};
@@ -90,7 +90,7 @@ fn read_pattern(
         fixed_bits: masks.fixed_bits,
         fixed_mask: masks.fixed_mask,
         ignored: masks.ignored,
-        values: Values::of(Vec::new(alloc)),
+        values: ValueList::of(Vec::new(alloc)),
     })
 }
 

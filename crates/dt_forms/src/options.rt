@@ -1,7 +1,6 @@
 //! What the command line says of the decoder.
 
-ghost use Rattle.std.specs.Prelude.{◌≡◌, true, false, codes};
-ghost use Rattle.dt_forms.specs.Options.{IsOptionName};
+ghost use Rattle.std.specs.Prelude.{◌≡◌};
 
 use dt_values::{Name, Width};
 
@@ -21,14 +20,11 @@ pub struct Options {
 /// What holds where no word says otherwise: words of 32 bits, the decoder `decode`, translators that begin with
 /// `trans`, all static.
 impl Default for Options {
+    ghost use Rattle.dt_forms.specs.Options.{IsOptions, default_options};
+
     fn default() -> Options
-        ensures width { result.width ≡ Width.W32 }
-        ensures fixed { result.variable ≡ false }
-        ensures decode { result.decode ≡ codes "decode" }
-        ensures translate { result.translate ≡ codes "trans" }
-        ensures statics { (result.decode_static ≡ true) × (result.translate_static ≡ true) }
-        ensures decode_kept { IsOptionName result.decode }
-        ensures translate_kept { IsOptionName result.translate }
+        ensures value { result ≡ default_options }
+        ensures kept { IsOptions result }
     {
         Options {
             width: Width::W32,

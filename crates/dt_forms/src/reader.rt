@@ -1,13 +1,13 @@
 //! Reads pattern files.
 
-ghost use Rattle.std.specs.Prelude.{◌≡◌, ◌≤◌, ◌++◌, ℕ, false, List, [], Option, length, map, vec_len, All, IfOk, IfErr, OnOk, None};
+ghost use Rattle.std.specs.Prelude.{◌≡◌, ◌≤◌, ◌++◌, ℕ, List, [], Option, length, map, vec_len, All, IfOk, IfErr, OnOk, None};
 ghost use Rattle.std.specs.Option.{option_map, option_to_list};
 ghost use Rattle.dt_values.specs.Widths.{width_bits};
 ghost use Rattle.dt_lines.specs.Lines.{logical_lines};
 ghost use Rattle.dt_lines.specs.Spans.{AreSpans, line_seen};
 ghost use Rattle.dt_forms.specs.declared.fault.ModelFault.TheVariants.{NoMemory};
 ghost use Rattle.dt_forms.specs.Models.{IsModelOf, formats_of, sets_of};
-ghost use Rattle.dt_forms.specs.Options.{IsOptionName};
+ghost use Rattle.dt_forms.specs.Options.{IsOptionName, IsOptions};
 ghost use Rattle.dt_forms.specs.Patterns.{pattern_line, pattern_lines};
 ghost use Rattle.dt_forms.specs.Reading.{after_line, after_lines, fault_in_lines, fault_or, pattern_lines_in, scope_of};
 ghost use Rattle.dt_forms.specs.Rules.{Broken, Fault as FirstFault, faults_of_line, first_fault};
@@ -37,15 +37,14 @@ pub const MOST_FILES: usize = 16;
 /// The model of these files, each read as the source at its place, from 0. Broken has a fault of the least line that
 /// breaks a rule, by its file and then its number: the first rule that this line breaks.
 pub fn read_model(alloc: Global, options: &Options, files: &[Source]) -> Result<Model, ModelFault>
-    requires fixed { options.now.variable ≡ false }
-    requires decode { IsOptionName options.now.decode }
-    requires translate { IsOptionName options.now.translate }
+    requires options { IsOptions options.now }
     requires few { length files.now ≤ MOST_FILES }
     requires sources { AreSources files.now }
     ensures model { IfOk result (IsModelOf options.now (texts_of files.now)) }
     ensures sound { IfOk result IsSound }
     ensures kept { OnOk result (first_fault (width_bits options.now.width) (texts_of files.now) ≡ None) }
-    ensures broken { IfErr result (λ fault. ModelBroken files.now fault (first_fault (width_bits options.now.width) (texts_of files.now))) }
+    ensures broken { IfErr result (λ fault.
+        ModelBroken files.now fault (first_fault (width_bits options.now.width) (texts_of files.now))) }
 {
     let patterns = read_files(alloc, options.width, files)?;
     match model_of(alloc, options, patterns) {

@@ -1,102 +1,74 @@
 //! A file with the lines that were read of it.
 
-ghost use Rattle.std.specs.Prelude.{◌≡◌, ◌≤◌, ◌↔◌, ℕ, None, Some, vec_len, IfOk, OnOk, IsErrOf};
-ghost use Rattle.dt_lines.specs.Faults.{line_fault, long_name, too_many_lines};
+ghost use Rattle.std.specs.Prelude.{◌≡◌, ◌≤◌, None, Err, vec_len, IfErr, IfOk, OnOk};
+ghost use Rattle.dt_forms.specs.FileFaults.{file_fault, line_broken, model_fault};
 ghost use Rattle.dt_forms.specs.Sources.{IsSourceAt};
+ghost use Rattle.dt_forms.specs.View.{FileBroken};
 
+use crate::fault::{Fault, ModelFault};
+use dt_fields::{Detail, Rule};
 use dt_lines::scan::logical;
-use dt_lines::{LARGEST_FILE, LineFault, Logical, line_count};
+use dt_lines::{LARGEST_FILE, LineFault, Logical, MOST_LINES, line_count};
+use dt_values::Items;
 use std::alloc::Global;
-use std::marker::Model;
 
 /// The bytes of a file. Contracts see the list of them.
-#[derive(Debug, Drop)]
-pub struct Bytes {
-    items: Vec<u8>,
-}
-
-impl Model for Bytes {
-    ghost use Rattle.std.specs.Prelude.{ℕ, List};
-
-    ghost Value = { List ℕ };
-
-    ghost view = { λ bytes. bytes.items.items };
-}
-
-impl Bytes {
-    /// These bytes.
-    pub fn of(items: Vec<u8>) -> Bytes
-        ensures { result ≡ items.items }
-    {
-        Bytes { items }
-    }
-
-    /// The bytes.
-    pub fn items(&self) -> &[u8]
-        ensures { result.now ≡ self.now }
-    {
-        self.items.as_slice()
-    }
-}
+pub type ByteList = Items<u8>;
 
 /// The logical lines of a file, in order. Contracts see the list of them.
-#[derive(Debug, Drop)]
-pub struct Lines {
-    items: Vec<Logical>,
-}
-
-impl Model for Lines {
-    ghost use Rattle.std.specs.Prelude.{List};
-    ghost use Rattle.dt_lines.specs.declared.line.Logical.{Logical};
-
-    ghost Value = { List Logical };
-
-    ghost view = { λ lines. lines.items.items };
-}
-
-impl Lines {
-    /// These lines.
-    pub fn of(items: Vec<Logical>) -> Lines
-        ensures { result ≡ items.items }
-    {
-        Lines { items }
-    }
-
-    /// The lines.
-    pub fn items(&self) -> &[Logical]
-        ensures { result.now ≡ self.now }
-    {
-        self.items.as_slice()
-    }
-}
+pub type LineList = Items<Logical>;
 
 /// A file: its bytes, its logical lines, and the number of its last physical line, 0 where there is none.
 #[derive(Debug, Drop)]
 pub struct Source {
-    pub bytes: Bytes,
-    pub lines: Lines,
+    pub bytes: ByteList,
+    pub lines: LineList,
     pub last_line: u32,
 }
 
 impl Source {
-    /// The file of these bytes, as the one at a place among all files, from 0. Errors: those of its lines.
-    pub fn read(alloc: Global, file: u16, bytes: Vec<u8>) -> Result<Source, LineFault>
+    /// The file of these bytes, as the one at a place among all files, from 0. Broken has rule K1 or K2, whether or not
+    /// there is memory.
+    pub fn read(alloc: Global, file: u16, bytes: Vec<u8>) -> Result<Source, ModelFault>
         requires { vec_len bytes ≤ LARGEST_FILE }
         ensures source { IfOk result (IsSourceAt file) }
         ensures bytes { IfOk result (λ source. source.bytes ≡ bytes.items) }
-        ensures sound { OnOk result (line_fault bytes.items ≡ None) }
-        ensures too_many_lines { IsErrOf result LineFault.TooManyLines ↔ (line_fault bytes.items ≡ Some too_many_lines) }
-        ensures long_name { (line : ℕ) → IsErrOf result (LineFault.LongName line) ↔ (line_fault bytes.items ≡ Some (long_name line)) }
+        ensures kept { OnOk result (file_fault file bytes.items ≡ None) }
+        ensures broken { IfErr result (λ fault. FileBroken bytes.items file fault (file_fault file bytes.items)) }
+        ensures memory { result ≡ Err ModelFault.NoMemory → file_fault file bytes.items ≡ None }
     {
         let lines = match logical(alloc, file, bytes.as_slice()) {
             Ok(lines) => lines,
-            Err(fault) => return Err(fault),
+            Err(fault) => return Err(model_fault(file, fault)),
         };
         let last_line = line_count(bytes.as_slice());
         Ok(Source {
-            bytes: Bytes::of(bytes),
-            lines: Lines::of(lines),
+            bytes: ByteList::of(bytes),
+            lines: LineList::of(lines),
             last_line,
         })
     }
+}
+
+// A fault of a file's lines, as one of the file at a place.
+fn model_fault(file: u16, fault: LineFault) -> ModelFault
+    ensures { result ≡ model_fault file fault }
+{
+    match fault {
+        LineFault::TooManyLines => line_broken(file, MOST_LINES as u32 + 1, Rule::K1),
+        LineFault::LongName(line) => line_broken(file, line, Rule::K2),
+        LineFault::NoMemory => ModelFault::NoMemory,
+    }
+}
+
+// A rule that a whole line breaks.
+fn line_broken(file: u16, line: u32, rule: Rule) -> ModelFault
+    ensures { result ≡ line_broken file line rule }
+{
+    ModelFault::Broken(Fault {
+        file,
+        line,
+        rule,
+        detail: Detail::None,
+    })
 }

@@ -1,22 +1,23 @@
 //! Reads small files: the rule of each faulty line, and the models of sound ones.
 
-ghost use Rattle.std.specs.Prelude.{◌≡◌, ◌≤◌, false, length, IfOk};
-ghost use Rattle.dt_forms.specs.Options.{IsOptionName};
-ghost use Rattle.dt_forms.specs.Sources.{IsSourceAt};
+ghost use Rattle.std.specs.Prelude.{◌≡◌, ◌+◌, ◌≤◌, length, vec_len, IfOk, OnOk};
+ghost use Rattle.dt_forms.specs.Options.{IsOptions};
+ghost use Rattle.dt_forms.specs.Sources.{AreSources, IsSourceAt};
 
 use crate::line::{LineFault, Place, read_line};
-use crate::{Entry, Fault, MOST_PATTERNS, Model, ModelFault, Options, Source, read_model};
+use crate::{
+    Entry, Fault, MOST_FILES, MOST_PATTERNS, Model, ModelFault, Options, Source, first_token,
+    read_model,
+};
 use dt_fields::{Detail, Rule};
-use dt_lines::{LARGEST_FILE, Span};
+use dt_lines::{LARGEST_FILE, Position, Span};
 use dt_values::Width;
 use std::alloc::Global;
 use std::test::Fail;
 
 // The options of a decoder of words of this width.
 fn options(width: Width) -> Options
-    ensures fixed { result.variable ≡ false }
-    ensures decode { IsOptionName result.decode }
-    ensures translate { IsOptionName result.translate }
+    ensures { IsOptions result }
 {
     Options {
         width,
@@ -41,17 +42,39 @@ fn read(alloc: Global, width: Width, text: &[u8]) -> Result<Result<Model, ModelF
     Ok(read_model(alloc, &options(width), files.as_slice()))
 }
 
-// What is read of two.
-fn read_two(
-    alloc: Global,
-    width: Width,
-    first: &[u8],
-    second: &[u8],
-) -> Result<Result<Model, ModelFault>, Fail>
-    requires first { length first.now ≤ LARGEST_FILE }
-    requires second { length second.now ≤ LARGEST_FILE }
+// The files of these texts, in order.
+fn sources(alloc: Global, texts: &[&[u8]]) -> Result<Vec<Source>, Fail>
+    requires { length texts.now ≤ MOST_FILES }
+    ensures sources { IfOk result (λ files. AreSources files.items) }
+    ensures few { IfOk result (λ files. vec_len files ≤ MOST_FILES) }
 {
-    let files = [source(alloc, 0, first)?, source(alloc, 1, second)?];
+    let mut files = Vec::new(alloc);
+    for text in texts {
+        if text.len() > LARGEST_FILE {
+            return Err("too long".into());
+        }
+        let file = source(alloc, files.len() as u16, text)?;
+        push_source(&mut files, file)?;
+    }
+    Ok(files)
+}
+
+// Puts a file behind the others.
+fn push_source(files: &mut Vec<Source>, file: Source) -> Result<(), Fail>
+    requires sources { AreSources files.old.items }
+    requires last { IsSourceAt (vec_len files.old) file }
+    ensures sources { OnOk result (AreSources files.new.items) }
+    ensures count { OnOk result (vec_len files.new ≡ vec_len files.old + 1) }
+{
+    files.push(file)?;
+    Ok(())
+}
+
+// What is read of these texts.
+fn read_all(alloc: Global, width: Width, texts: &[&[u8]]) -> Result<Result<Model, ModelFault>, Fail>
+    requires { length texts.now ≤ MOST_FILES }
+{
+    let files = sources(alloc, texts)?;
     Ok(read_model(alloc, &options(width), files.as_slice()))
 }
 
@@ -234,14 +257,14 @@ fn no_pattern_needs_no_set(rt: HostRuntime) -> Result<(), Fail> {
 #[test]
 fn the_second_file_follows(rt: HostRuntime) -> Result<(), Fail> {
     let first = b"a 0000000000000000\nb 0000000000000001\n";
-    let model = model_of(read_two(rt.alloc(), Width::W16, first, b"\na 0000000000000010")?)?;
+    let model = model_of(read_all(rt.alloc(), Width::W16, &[first, b"\na 0000000000000010"])?)?;
     let [a, b, c] = model.patterns.items() else {
         return Err("three patterns".into());
     };
     assert_eq!(rt; (a.file, a.line, a.fixed_bits), (0, 1, 0));
     assert_eq!(rt; (b.file, b.line, b.fixed_bits), (0, 2, 1));
     assert_eq!(rt; (c.file, c.line, c.fixed_bits), (1, 2, 2));
-    let fault = fault_of(&read_two(rt.alloc(), Width::W16, first, b"\n\na 0")?)?;
+    let fault = fault_of(&read_all(rt.alloc(), Width::W16, &[first, b"\n\na 0"])?)?;
     assert_eq!(rt; (fault.file, fault.line, fault.rule), (1, 3, Rule::G9));
     Ok(())
 }
@@ -256,9 +279,9 @@ fn a_pattern_too_many(rt: HostRuntime) -> Result<(), Fail> {
         return Err("too long".into());
     }
     let model = model_of(read(rt.alloc(), Width::W16, bytes.as_slice())?)?;
-    assert_eq!(rt; model.patterns.items().len(), 8192);
+    assert_eq!(rt; model.patterns.items().len(), MOST_PATTERNS);
     let last = bytes.len() as u32;
-    let fault = fault_of(&read_two(rt.alloc(), Width::W16, bytes.as_slice(), b"b -")?)?;
+    let fault = fault_of(&read_all(rt.alloc(), Width::W16, &[bytes.as_slice(), b"b -"])?)?;
     assert_eq!(rt;
         (fault.file, fault.line, fault.rule, fault.detail),
         (1, 1, Rule::L9, text(0, 1))
@@ -293,4 +316,60 @@ fn a_line_without_tokens_has_an_indentation(rt: HostRuntime) {
         &[],
     );
     assert!(rt; matches!(read, Ok(None)));
+}
+
+#[test]
+fn sixteen_files_are_read(rt: HostRuntime) -> Result<(), Fail> {
+    let mut texts: [&[u8]; MOST_FILES] = [b"a ----------------"; MOST_FILES];
+    let model = model_of(read_all(rt.alloc(), Width::W16, &texts)?)?;
+    assert_eq!(rt; model.patterns.items().len(), MOST_FILES);
+    texts[MOST_FILES - 1] = b"\nb 1";
+    let fault = fault_of(&read_all(rt.alloc(), Width::W16, &texts)?)?;
+    assert_eq!(rt; (fault.file, fault.line, fault.rule), (15, 2, Rule::G9));
+    Ok(())
+}
+
+#[test]
+fn a_refused_file_has_its_place(rt: HostRuntime) -> Result<(), Fail> {
+    let mut bytes = Vec::from_slice(rt.alloc(), b"a 0\n")?;
+    bytes.extend_from_slice(&[b'x'; 129])?;
+    let broken = Source::read(rt.alloc(), 3, bytes);
+    let fault = Fault {
+        file: 3,
+        line: 2,
+        rule: Rule::K2,
+        detail: Detail::None,
+    };
+    assert!(rt; matches!(&broken, Err(ModelFault::Broken(found)) if *found == fault));
+    let bytes = vec![in rt.alloc(); b'\n'; 65_536]?;
+    let broken = Source::read(rt.alloc(), 1, bytes);
+    let fault = Fault {
+        file: 1,
+        line: 65_536,
+        rule: Rule::K1,
+        detail: Detail::None,
+    };
+    assert!(rt; matches!(&broken, Err(ModelFault::Broken(found)) if *found == fault));
+    Ok(())
+}
+
+#[test]
+fn the_first_token_at_a_position(rt: HostRuntime) -> Result<(), Fail> {
+    let files = sources(rt.alloc(), &[b"a 0\nb \\\n1\n#\nd 0", b"", b"\n e f"])?;
+    let table: [(u16, u32, &[u8]); 9] = [
+        (0, 1, b"a"),
+        (0, 2, b"b"),
+        (0, 3, b""),
+        (0, 4, b""),
+        (0, 5, b"d"),
+        (0, 6, b""),
+        (1, 1, b""),
+        (2, 2, b"e"),
+        (3, 1, b""),
+    ];
+    for (file, line, token) in table {
+        let position = Position { file, line };
+        assert_eq!(rt; first_token(files.as_slice(), position), token);
+    }
+    Ok(())
 }

@@ -1,5 +1,6 @@
 -- The first file of a name.
-use Rattle.std.proofs.Common.{◌≡◌, ℕ, nat_eq, Bool, true, false, List, [], ◌∷◌, cond, find, Option, Some, refl, ap, sym, ◌∙◌}
+use Rattle.std.proofs.Common.{◌≡◌, ℕ, nat_eq, Bool, true, false, List, [], ◌∷◌, cond, find}
+use Rattle.std.proofs.Common.{Option, Some, refl, ap, sym, ◌∙◌}
 use Rattle.std.specs.Option.{option_map}
 use Rattle.std.specs.Ordering.{nat_cmp, eq_by_cmp}
 use Rattle.std.specs.Prelude.{String, Vec}
@@ -13,7 +14,9 @@ use Rattle.dt_io.specs.MemoryFolders.{files_of, pairs_of, has_name}
 same_test : (xs ys : List ℕ) → eq_by_cmp (slice_cmp nat_cmp) xs ys ≡ pointwise nat_eq ys xs
 same_test xs ys = sym (texts_ties xs ys) ∙ nat_list_eq_equiv.symm xs ys
 
-chosen : (b : Bool) (f : String Global × Vec ℕ Global) (o : Option (String Global × Vec ℕ Global)) → cond b (Some f.1.items) (option_map (λ f. f.1.items) o) ≡ option_map (λ f. f.1.items) (cond b (Some f) o)
+chosen : (b : Bool) (f : String Global × Vec ℕ Global) (o : Option (String Global × Vec ℕ Global))
+    → cond b (Some f.1.items) (option_map (λ f. f.1.items) o)
+    ≡ option_map (λ f. f.1.items) (cond b (Some f) o)
 chosen true f o = refl
 chosen false f o = refl
 

@@ -1,3 +1,4 @@
-pub mod Told
+pub mod Extending
+pub mod Reporting
 pub mod ByName
 pub mod Distinct

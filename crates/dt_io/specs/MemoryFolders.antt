@@ -1,5 +1,7 @@
--- A folder in memory.
-use Rattle.std.specs.Prelude.{ℕ, ◌-◌, min, Bool, ◌==◌, String, Vec, List, map, length, nat_eq, Option, Some, None, is_none, Result, Ok, Err, if◌then◌else◌}
+-- A folder in memory, and what its next read does.
+use Rattle.std.specs.Prelude.{ℕ, ◌-◌, min, Bool, ◌==◌, nat_eq, String, Vec, List, map, length}
+use Rattle.std.specs.Prelude.{Option, Some, None, is_none}
+use Rattle.std.specs.Prelude.{Result, Ok, Err, if◌then◌else◌}
 use Rattle.std.specs.List.{list_any, IsDistinct}
 use Rattle.std.specs.Cmp.Lexicographic.{pointwise}
 use Rattle.std.specs.FinMap as finite
@@ -7,6 +9,7 @@ use Rattle.std.specs.declared.alloc.Global.{Global}
 use Rattle.std.specs.String.{string_bytes}
 use Rattle.dt_io.specs.Causes.{one_more}
 use Rattle.dt_io.specs.Files.{Files}
+use Rattle.dt_io.specs.Folders.{FolderSeen}
 use Rattle.dt_io.specs.declared.folders.FolderFault.{FolderFault}
 use Rattle.dt_io.specs.declared.folders.FolderFault.TheVariants as cases
 
@@ -17,7 +20,7 @@ pub record FolderMemory : Type 0 where
   pub step : ℕ
   -- the numbers of the reads that fail, counted from 1
   pub failing : List ℕ
-  pub calls : ℕ
+  pub reads : ℕ
   pub misses : ℕ
   pub read_faults : ℕ
 
@@ -33,9 +36,18 @@ HaveDistinctNames pairs = IsDistinct (pointwise nat_eq) (map (λ pair. pair.0) p
 abbrev pub files_of : List (List ℕ × List ℕ) → Files
 files_of pairs = finite.from_entries pairs
 
+-- what is seen of it
+abbrev pub folder_seen : FolderMemory → FolderSeen
+folder_seen memory = record {
+  files = Some (files_of memory.files);
+  misses = memory.misses;
+  read_faults = memory.read_faults;
+  reads = memory.reads;
+}
+
 -- whether the next read fails
 abbrev pub fails_read : FolderMemory → Bool
-fails_read memory = list_any (λ n. n == one_more memory.calls) memory.failing
+fails_read memory = list_any (λ n. n == one_more memory.reads) memory.failing
 
 -- what the next read answers, of a file from a place on, into so much room
 abbrev pub answer_of : FolderMemory → List ℕ → ℕ → ℕ → Result ℕ FolderFault
@@ -50,10 +62,10 @@ answer_of memory name at room =
 abbrev pub after_read : FolderMemory → List ℕ → FolderMemory
 after_read memory name =
     if fails_read memory
-    then record memory { calls = one_more memory.calls; read_faults = one_more memory.read_faults }
+    then record memory { reads = one_more memory.reads; read_faults = one_more memory.read_faults }
     else if is_none (finite.get (files_of memory.files) name)
-    then record memory { calls = one_more memory.calls; misses = one_more memory.misses }
-    else record memory { calls = one_more memory.calls }
+    then record memory { reads = one_more memory.reads; misses = one_more memory.misses }
+    else record memory { reads = one_more memory.reads }
 
 -- whether the file has this name
 abbrev pub has_name : List ℕ → String Global × Vec ℕ Global → Bool

@@ -16,7 +16,7 @@ pub use memory_sink::MemorySink;
 pub use read::{LoadFault, read_all};
 pub use real_folder::RealFolder;
 pub use real_sink::RealSink;
-pub use sinks::{Failed, Sink, write_all};
+pub use sinks::{Failed, Sink, report, write_all};
 
 #[cfg(test)]
 mod tests;

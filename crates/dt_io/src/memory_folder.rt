@@ -1,12 +1,14 @@
 //! A folder in memory, whose failures are planned.
-ghost use Rattle.std.specs.Prelude.{◌≡◌, ◌≤◌, ◌-◌, min, length, take, drop, find, Some, IfOk, OnErr, IsErrOf};
+ghost use Rattle.std.specs.Prelude.{◌≡◌, ◌≤◌, ◌-◌, min, length, take, drop, find, Some, IfOk, OnErr};
 ghost use Rattle.std.specs.Io.{ReadsAtMost};
 ghost use Rattle.std.specs.Option.{option_copied};
 ghost use Rattle.std.specs.String.{string_bytes};
 ghost use Rattle.std.specs.FinMap as finite;
-ghost use Rattle.dt_io.specs.Causes.{Rose};
-ghost use Rattle.dt_io.specs.Files.{Held, NotHeld, ReadsAt};
-ghost use Rattle.dt_io.specs.MemoryFolders.{pairs_of, files_of, has_name, HaveDistinctNames, answer_of, after_read};
+ghost use Rattle.dt_io.specs.Causes.{one_more};
+ghost use Rattle.dt_io.specs.Files.{Held, ReadsAt};
+ghost use Rattle.dt_io.specs.Folders.{HasReadCause, IsOnlyRead};
+ghost use Rattle.dt_io.specs.MemoryFolders.{HaveDistinctNames, answer_of, after_read, files_of, folder_seen};
+ghost use Rattle.dt_io.specs.MemoryFolders.{has_name, pairs_of};
 
 use crate::faults::raise;
 use crate::folders::{Folder, FolderFault};
@@ -20,7 +22,7 @@ pub struct MemoryFolder {
     files: Vec<(String, Vec<u8>)>,
     step: usize,
     failing: Vec<u64>,
-    calls: u64,
+    reads: u64,
     misses: u64,
     read_faults: u64,
 }
@@ -35,7 +37,7 @@ impl Model for MemoryFolder {
       files = pairs_of s.files.items;
       step = s.step;
       failing = s.failing.items;
-      calls = s.calls;
+      reads = s.reads;
       misses = s.misses;
       read_faults = s.read_faults;
     } };
@@ -83,7 +85,7 @@ fn bytes_of<'a>(files: &'a [(String, Vec<u8>)], name: &str) -> Option<&'a [u8]>
     Some(file.1.as_slice())
 }
 
-/// Copies bytes of a file, from a place on, to the front of the buffer.
+/// Copies bytes of a file, from a place on, to the start of the buffer.
 fn copy_at(file: &[u8], at: u64, step: usize, buf: &mut [u8]) -> usize
     ensures count { result ≡ min (min step (length buf.old)) (length file.now - at) }
     ensures bytes { take result buf.new ≡ take result (drop at file.now) }
@@ -95,9 +97,9 @@ fn copy_at(file: &[u8], at: u64, step: usize, buf: &mut [u8]) -> usize
     }
     let (_, rest) = file.split_at(at as usize);
     let count = step.min(buf.len()).min(rest.len());
-    let (front, _) = rest.split_at(count);
+    let (read, _) = rest.split_at(count);
     let (place, _) = buf.split_at_mut(count);
-    place.copy_from_slice(front);
+    place.copy_from_slice(read);
     count
 }
 
@@ -115,7 +117,7 @@ impl MemoryFolder {
           files = pairs_of files.now;
           step = step;
           failing = failing.now;
-          calls = 0;
+          reads = 0;
           misses = 0;
           read_faults = 0;
         }) }
@@ -124,7 +126,7 @@ impl MemoryFolder {
             files: copies_of(alloc, files)?,
             step,
             failing: Vec::from_slice(alloc, failing)?,
-            calls: 0,
+            reads: 0,
             misses: 0,
             read_faults: 0,
         })
@@ -139,29 +141,22 @@ impl MemoryFolder {
 }
 
 impl Folder for MemoryFolder {
-    ghost files = { λ s. Some (files_of s.files) };
-
-    ghost misses = { λ s. s.misses };
-
-    ghost read_faults = { λ s. s.read_faults };
+    ghost seen = { folder_seen };
 
     fn read(&mut self, name: &str, at: u64, buf: &mut [u8]) -> Result<usize, FolderFault>
         ensures bound { ReadsAtMost result buf.new }
-        ensures ok { IfOk result (λ n. Held (Some (files_of self.old.files)) name.now
+        ensures bytes { IfOk result (λ n. Held (Some (files_of self.old.files)) name.now
             (λ file. ReadsAt file at n buf.old buf.new)) }
-        ensures missing { IsErrOf result FolderFault.Missing → NotHeld (Some (files_of self.old.files)) name.now }
-        ensures missed { IsErrOf result FolderFault.Missing → Rose self.old.misses self.new.misses }
-        ensures failed { IsErrOf result FolderFault.Failed → Rose self.old.read_faults self.new.read_faults }
-        ensures files { Some (files_of self.new.files) ≡ Some (files_of self.old.files) }
-        ensures misses { self.old.misses ≤ self.new.misses }
-        ensures read_faults { self.old.read_faults ≤ self.new.read_faults }
+        ensures cause { HasReadCause (folder_seen self.old) (folder_seen self.new) name.now result }
+        ensures only { IsOnlyRead (folder_seen self.old) (folder_seen self.new) }
+        ensures counted { self.new.reads ≡ one_more self.old.reads }
         ensures exact { self.new ≡ after_read self.old name.now }
         ensures answer { result ≡ answer_of self.old name.now at (length buf.old) }
         ensures rest { IfOk result (λ n. drop n buf.new ≡ drop n buf.old) }
         ensures same { OnErr result (buf.new ≡ buf.old) }
     {
-        raise(&mut self.calls);
-        if self.failing.contains(&self.calls) {
+        raise(&mut self.reads);
+        if self.failing.contains(&self.reads) {
             raise(&mut self.read_faults);
             return Err(FolderFault::Failed);
         }

@@ -1,7 +1,9 @@
 //! A file read whole, up to a limit.
-ghost use Rattle.std.specs.Prelude.{false, ◌≡◌, ◌≤◌, ◌<◌, ◌-◌, ◌⊎◌, ◌++◌, take, drop, OnOk, IfOk, IsOk, IsErrOf, IsTrue, ◌↔◌, vec_len, length};
-ghost use Rattle.dt_io.specs.Causes.{Rose};
-ghost use Rattle.dt_io.specs.Files.{Held, IfHeld, IfNotHeld, NotHeld, load_fault};
+ghost use Rattle.std.specs.Prelude.{false, ◌≡◌, ◌≤◌, ◌<◌, ◌+◌, ◌-◌, ◌↔◌, ◌++◌, All, take, drop, vec_len, length};
+ghost use Rattle.std.specs.Prelude.{OnOk, IfOk, IsErrOf, IsTrue};
+ghost use Rattle.dt_io.specs.Files.{Held};
+ghost use Rattle.dt_io.specs.Folders.{HasReadCause, IsOnlyRead};
+ghost use Rattle.dt_io.specs.Loads.{HasLoadCause, LoadsUnlessFailed, load_fault};
 
 use crate::folders::{Folder, FolderFault};
 use std::alloc::Global;
@@ -19,7 +21,7 @@ pub enum LoadFault {
     /// The file has more bytes than the limit.
     #[error("the file is too large")]
     TooLarge,
-    /// There was no memory for the bytes.
+    /// Memory ran out.
     #[error("out of memory")]
     NoMemory,
 }
@@ -37,15 +39,11 @@ impl From<FolderFault> for LoadFault {
 
 /// Whether the file goes past the limit.
 fn is_longer<D: Folder>(folder: &mut D, name: &str, limit: u64) -> Result<bool, FolderFault>
-    ensures ok { IfOk result (λ longer. Held (D.files folder.old) name.now
+    ensures longer { IfOk result (λ longer. Held (D.seen folder.old).files name.now
         (λ file. IsTrue longer ↔ (limit < length file))) }
-    ensures missing { IsErrOf result FolderFault.Missing → NotHeld (D.files folder.old) name.now }
-    ensures missed { IsErrOf result FolderFault.Missing → Rose (D.misses folder.old) (D.misses folder.new) }
-    ensures failed { IsErrOf result FolderFault.Failed
-        → Rose (D.read_faults folder.old) (D.read_faults folder.new) }
-    ensures files { D.files folder.new ≡ D.files folder.old }
-    ensures misses { D.misses folder.old ≤ D.misses folder.new }
-    ensures read_faults { D.read_faults folder.old ≤ D.read_faults folder.new }
+    ensures cause { HasReadCause (D.seen folder.old) (D.seen folder.new) name.now result }
+    ensures only { IsOnlyRead (D.seen folder.old) (D.seen folder.new) }
+    ensures once { (D.seen folder.new).reads ≤ (D.seen folder.old).reads + 1 }
 {
     let mut next = [0];
     let count = folder.read(name, limit, &mut next)?;
@@ -60,21 +58,18 @@ fn read_more<D: Folder>(
     limit: u64,
 ) -> Result<bool, LoadFault>
     requires { vec_len bytes.old < limit }
-    ensures next { OnOk result (Held (D.files folder.old) name.now
+    ensures next { OnOk result (Held (D.seen folder.old).files name.now
         (λ file. bytes.new.items ≡ bytes.old.items
         ++ take (vec_len bytes.new - vec_len bytes.old) (drop (vec_len bytes.old) file))) }
-    ensures end { IfOk result (λ more. Held (D.files folder.old) name.now
+    ensures end { IfOk result (λ more. Held (D.seen folder.old).files name.now
         (λ file. more ≡ false → length file ≤ vec_len bytes.new)) }
     ensures progress { IfOk result (λ more. IsTrue more → vec_len bytes.old < vec_len bytes.new) }
     ensures limit { OnOk result (vec_len bytes.new ≤ limit) }
-    ensures missing { IsErrOf result LoadFault.Missing → NotHeld (D.files folder.old) name.now }
-    ensures missed { IsErrOf result LoadFault.Missing → Rose (D.misses folder.old) (D.misses folder.new) }
-    ensures failed { IsErrOf result LoadFault.Failed
-        → Rose (D.read_faults folder.old) (D.read_faults folder.new) }
+    ensures bytes { OnOk result (All (λ b. b < 256) bytes.new.items) }
+    ensures cause { HasLoadCause (D.seen folder.old) (D.seen folder.new) name.now limit result }
     ensures large { IsErrOf result LoadFault.TooLarge → ⊥ }
-    ensures files { D.files folder.new ≡ D.files folder.old }
-    ensures misses { D.misses folder.old ≤ D.misses folder.new }
-    ensures read_faults { D.read_faults folder.old ≤ D.read_faults folder.new }
+    ensures only { IsOnlyRead (D.seen folder.old) (D.seen folder.new) }
+    ensures once { (D.seen folder.new).reads ≤ (D.seen folder.old).reads + 1 }
 {
     let mut buffer = [0; 4096];
     let at = bytes.len() as u64;
@@ -96,27 +91,13 @@ pub fn read_all<D: Folder>(
     name: &str,
     limit: u64,
 ) -> Result<Vec<u8>, LoadFault>
-    ensures bytes { IfOk result (λ bytes. Held (D.files folder.old) name.now (λ file. bytes.items ≡ file)) }
+    ensures file { IfOk result (λ bytes. Held (D.seen folder.old).files name.now (λ file. bytes.items ≡ file)) }
     ensures limit { IfOk result (λ bytes. vec_len bytes ≤ limit) }
-    ensures missing { IsErrOf result LoadFault.Missing → NotHeld (D.files folder.old) name.now }
-    ensures missed { IsErrOf result LoadFault.Missing → Rose (D.misses folder.old) (D.misses folder.new) }
-    ensures failed { IsErrOf result LoadFault.Failed
-        → Rose (D.read_faults folder.old) (D.read_faults folder.new) }
-    ensures large { IsErrOf result LoadFault.TooLarge → Held (D.files folder.old) name.now
-        (λ file. limit < length file) }
-    ensures only_large { IfHeld (D.files folder.old) name.now
-        (λ file. limit < length file
-        → IsErrOf result LoadFault.TooLarge
-        ⊎ Rose (D.read_faults folder.old) (D.read_faults folder.new)) }
-    ensures only_missing { IfNotHeld (D.files folder.old) name.now (IsErrOf result LoadFault.Missing
-        ⊎ Rose (D.read_faults folder.old) (D.read_faults folder.new)) }
-    ensures success { IfHeld (D.files folder.old) name.now
-        (λ file. length file ≤ limit
-        → IsOk result ⊎ (IsErrOf result LoadFault.NoMemory
-        ⊎ Rose (D.read_faults folder.old) (D.read_faults folder.new))) }
-    ensures files { D.files folder.new ≡ D.files folder.old }
-    ensures misses { D.misses folder.old ≤ D.misses folder.new }
-    ensures read_faults { D.read_faults folder.old ≤ D.read_faults folder.new }
+    ensures bytes { IfOk result (λ bytes. All (λ b. b < 256) bytes.items) }
+    ensures cause { HasLoadCause (D.seen folder.old) (D.seen folder.new) name.now limit result }
+    ensures otherwise { LoadsUnlessFailed (D.seen folder.old) (D.seen folder.new) name.now limit result }
+    ensures only { IsOnlyRead (D.seen folder.old) (D.seen folder.new) }
+    ensures reads { (D.seen folder.new).reads ≤ (D.seen folder.old).reads + limit + 2 }
 {
     if is_longer(folder, name, limit)? {
         return Err(LoadFault::TooLarge);

@@ -1,54 +1,71 @@
 //! A folder over the system's files.
-ghost use Rattle.std.specs.Prelude.{◌≡◌, ◌≤◌, None, IfOk, IsErrOf};
+ghost use Rattle.std.specs.Prelude.{◌≡◌, None, IfOk};
 ghost use Rattle.std.specs.Io.{ReadsAtMost};
-ghost use Rattle.dt_io.specs.Causes.{Rose};
-ghost use Rattle.dt_io.specs.Files.{Held, NotHeld, ReadsAt, after_answer};
+ghost use Rattle.dt_io.specs.Causes.{one_more};
+ghost use Rattle.dt_io.specs.Files.{Held, ReadsAt};
+ghost use Rattle.dt_io.specs.Folders.{HasReadCause, IsOnlyRead, after_answer, counts_seen};
 
 use crate::faults::raise;
 use crate::folders::{Folder, FolderFault};
-use std::fs;
 use std::io::{ErrorKind, Read, Seek, SeekFrom};
 use std::marker::Model;
 use std::rt::Files;
+use std::{fs, io};
 
-/// The folder that the program runs in, of which nothing is told but how often a read failed and
-/// how often a file was missing, each up to 2^64 - 1.
+/// The folder that the program runs in, of which nothing is known but how many reads were made,
+/// how often one failed and how often a file was missing, each up to 2^64 - 1. What is no regular
+/// file, as a folder, a pipe or a device, isn't read.
 #[derive(Drop)]
 pub struct RealFolder<'a, R: Files> {
     rt: &'a R,
     misses: u64,
     read_faults: u64,
+    reads: u64,
 }
 
 impl<'a, R: Files> Model for RealFolder<'a, R> {
-    ghost use Rattle.dt_io.specs.Files.{FolderCounts};
+    ghost use Rattle.dt_io.specs.Folders.{FolderCounts};
 
     ghost Value = { FolderCounts };
 
-    ghost view = { λ s. record { misses = s.misses; read_faults = s.read_faults } };
+    ghost view = { λ s. record { misses = s.misses; read_faults = s.read_faults; reads = s.reads } };
 }
 
 impl<'a, R: Files> RealFolder<'a, R> {
-    /// The folder that the program runs in, with no fault so far.
+    /// The folder that the program runs in, with no read so far.
     pub fn new(rt: &'a R) -> RealFolder<'a, R>
-        ensures { result ≡ record { misses = 0; read_faults = 0 } }
+        ensures { result ≡ record { misses = 0; read_faults = 0; reads = 0 } }
     {
         RealFolder {
             rt,
             misses: 0,
             read_faults: 0,
+            reads: 0,
         }
     }
 }
 
-/// Reads bytes of a file of the system, from a place on.
+/// What an error of the system says of a file.
+fn fault_of(error: &io::Error) -> FolderFault {
+    if error.kind() == ErrorKind::NotFound {
+        FolderFault::Missing
+    } else {
+        FolderFault::Failed
+    }
+}
+
+/// Reads bytes of a regular file of the system, from a place on.
 fn read_at<R: Files>(rt: &R, name: &str, at: u64, buf: &mut [u8]) -> Result<usize, FolderFault>
     ensures { ReadsAtMost result buf.new }
 {
+    match fs::metadata(rt, name) {
+        Ok(metadata) if metadata.is_file() => {}
+        Ok(_) => return Err(FolderFault::Failed),
+        Err(error) => return Err(fault_of(&error)),
+    }
     let mut file = match fs::open(rt, name) {
         Ok(file) => file,
-        Err(error) if error.kind() == ErrorKind::NotFound => return Err(FolderFault::Missing),
-        Err(_) => return Err(FolderFault::Failed),
+        Err(error) => return Err(fault_of(&error)),
     };
     if file.seek(SeekFrom::Start(at)).is_err() {
         return Err(FolderFault::Failed);
@@ -60,22 +77,17 @@ fn read_at<R: Files>(rt: &R, name: &str, at: u64, buf: &mut [u8]) -> Result<usiz
 }
 
 impl<'a, R: Files> Folder for RealFolder<'a, R> {
-    ghost files = { λ _. None };
-
-    ghost misses = { λ s. s.misses };
-
-    ghost read_faults = { λ s. s.read_faults };
+    ghost seen = { counts_seen };
 
     fn read(&mut self, name: &str, at: u64, buf: &mut [u8]) -> Result<usize, FolderFault>
         ensures bound { ReadsAtMost result buf.new }
-        ensures ok { IfOk result (λ n. Held None name.now (λ file. ReadsAt file at n buf.old buf.new)) }
-        ensures missing { IsErrOf result FolderFault.Missing → NotHeld None name.now }
-        ensures missed { IsErrOf result FolderFault.Missing → Rose self.old.misses self.new.misses }
-        ensures failed { IsErrOf result FolderFault.Failed → Rose self.old.read_faults self.new.read_faults }
-        ensures misses { self.old.misses ≤ self.new.misses }
-        ensures read_faults { self.old.read_faults ≤ self.new.read_faults }
+        ensures bytes { IfOk result (λ n. Held None name.now (λ file. ReadsAt file at n buf.old buf.new)) }
+        ensures cause { HasReadCause (counts_seen self.old) (counts_seen self.new) name.now result }
+        ensures only { IsOnlyRead (counts_seen self.old) (counts_seen self.new) }
+        ensures counted { self.new.reads ≡ one_more self.old.reads }
         ensures exact { self.new ≡ after_answer self.old result }
     {
+        raise(&mut self.reads);
         let answer = read_at(self.rt, name, at, buf);
         match answer {
             Ok(_) => {}

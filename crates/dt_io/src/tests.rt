@@ -3,7 +3,7 @@ ghost use Rattle.std.specs.Prelude.{◌≤◌};
 
 use crate::{
     Failed, Folder, FolderFault, LoadFault, MemoryFolder, MemorySink, RealFolder, RealSink, Sink,
-    read_all, write_all,
+    read_all, report, write_all,
 };
 use std::alloc::{AllocError, Global};
 use std::fs;
@@ -125,13 +125,41 @@ fn a_real_folder_reads_what_was_written(rt: HostRuntime) -> Result<(), Fail> {
 }
 
 #[test]
+fn a_real_folder_reads_regular_files_alone(rt: HostRuntime) -> Result<(), Fail> {
+    let mut folder = RealFolder::new(&rt);
+    for name in [".", "/dev/null"] {
+        let read = folder.read(name, 0, &mut [0]);
+        assert_eq!(rt; read, Err(FolderFault::Failed), "{name}");
+    }
+    Ok(())
+}
+
+#[test]
 fn a_real_sink_writes_to_its_writer(rt: HostRuntime) -> Result<(), Fail> {
     let alloc = rt.alloc();
-    let mut sink = RealSink::new(Vec::new(alloc));
-    assert_eq!(rt; write_all(&mut sink, b"text"), Ok(()));
+    let mut bytes = Vec::new(alloc);
+    let mut sink = RealSink::new(&mut bytes);
+    assert_eq!(rt; write_all(&mut sink, b"some "), Ok(()));
     assert_eq!(rt; sink.write(b""), Ok(0));
+    report(&mut sink, b"text");
+    assert_eq!(rt; bytes.as_slice(), b"some text".as_slice());
+    Ok(())
+}
+
+#[test]
+fn a_real_sink_fails_where_its_writer_is_full(rt: HostRuntime) -> Result<(), Fail> {
     let mut room = [0; 2];
-    let mut full = RealSink::new(room.as_mut_slice());
-    assert_eq!(rt; write_all(&mut full, b"text"), Err(Failed));
+    let mut sink = RealSink::new(room.as_mut_slice());
+    assert_eq!(rt; write_all(&mut sink, b"text"), Err(Failed));
+    assert_eq!(rt; room, *b"te");
+    Ok(())
+}
+
+#[test]
+fn faults_have_texts(rt: HostRuntime) -> Result<(), Fail> {
+    let alloc = rt.alloc();
+    let missing = format!(in alloc; "{}", FolderFault::Missing)?;
+    assert_eq!(rt; missing.as_str(), "there is no such file");
+    assert_eq!(rt; format!(in alloc; "{Failed}")?.as_str(), "the write failed");
     Ok(())
 }

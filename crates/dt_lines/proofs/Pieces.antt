@@ -10,7 +10,9 @@ use Rattle.std.proofs.lemmas.List.Splits.{slice_split_at, slice_split_none, leng
 use Rattle.std.proofs.lemmas.Bool.{cases_lt}
 use Rattle.std.proofs.lemmas.Slice.{between_to_end}
 use Rattle.std.proofs.lemmas.Grind.{common_steps}
-use Rattle.dt_lines.specs.Lines.{is_newline, is_white, is_comment_mark, before_comment, not_empty, tokens, without_empty_end, physical_lines}
+use Rattle.dt_lines.specs.Lines.{Piece, is_newline, is_white, is_comment_mark, before_comment, not_empty, pieces_from, tokens_from, without_empty_end, physical_lines}
+use Rattle.dt_lines.specs.Gathering.{piece_between}
+use Rattle.dt_lines.specs.SoFar.{IsLineEnd}
 
 -- a part of a list, cut at an element
 pub between_cut : {X : Type 0} → (xs : List X) (s i e : ℕ) (d : X) → s ≤ i → i < e → e ≤ length xs → between s e xs ≡ between s i xs ++ (get_or xs i d ∷ between (i + 1) e xs)
@@ -26,21 +28,26 @@ between_cut {X} xs s i e d h k l =
     ∙ ap (λ ys. take (i - s) (drop s xs) ++ ys) (take-add 1 (e - (i + 1)) (get_or xs i d ∷ drop (i + 1) xs))
 
 -- a token is a run of bytes that aren't white space
-pub tokens_at : (xs : List ℕ) (b : ℕ) (ys : List ℕ) → All (λ x. is_white x ≡ false) xs → is_white b ≡ true → tokens (xs ++ b ∷ ys) ≡ not_empty xs ++ tokens ys
-tokens_at xs b ys h k = ap (flat_map not_empty) (slice_split_at is_white xs b ys h k)
+pub tokens_at : (start : ℕ) (xs : List ℕ) (b : ℕ) (ys : List ℕ) → All (λ x. is_white x ≡ false) xs → is_white b ≡ true
+    → tokens_from start (xs ++ b ∷ ys) ≡ not_empty start xs ++ tokens_from (start + length xs + 1) ys
+tokens_at start xs b ys h k = ap (λ ts. flat_map (λ p. not_empty p.start p.text) (pieces_from start ts)) (slice_split_at is_white xs b ys h k)
 
-pub tokens_last : (xs : List ℕ) → All (λ x. is_white x ≡ false) xs → tokens xs ≡ not_empty xs
-tokens_last xs h = ap (flat_map not_empty) (slice_split_none is_white xs h) ∙ append-nil (not_empty xs)
+pub tokens_last : (start : ℕ) (xs : List ℕ) → All (λ x. is_white x ≡ false) xs → tokens_from start xs ≡ not_empty start xs
+tokens_last start xs h = ap (λ ts. flat_map (λ p. not_empty p.start p.text) (pieces_from start ts)) (slice_split_none is_white xs h) ∙ append-nil (not_empty start xs)
 
 -- one white byte more
-pub tokens_more : (bytes : List ℕ) (s i e d : ℕ) (before after : List (List ℕ)) → s ≤ i → i < e → e ≤ length bytes
+pub tokens_more : (bytes : List ℕ) (s i e d : ℕ) (before after : List Piece) → s ≤ i → i < e → e ≤ length bytes
     → All (λ x. is_white x ≡ false) (between s i bytes) → is_white (get_or bytes i d) ≡ true
-    → after ≡ before ++ not_empty (between s i bytes)
-    → after ++ tokens (between (i + 1) e bytes) ≡ before ++ tokens (between s e bytes)
+    → after ≡ before ++ not_empty s (between s i bytes)
+    → after ++ tokens_from (i + 1) (between (i + 1) e bytes) ≡ before ++ tokens_from s (between s e bytes)
 tokens_more bytes s i e d before after h k l none white is =
-    ap (λ ts. ts ++ tokens (between (i + 1) e bytes)) is
-    ∙ append_assoc before (not_empty (between s i bytes)) (tokens (between (i + 1) e bytes))
-    ∙ ap (λ ts. before ++ ts) (sym (tokens_at (between s i bytes) (get_or bytes i d) (between (i + 1) e bytes) none white) ∙ ap tokens (sym (between_cut bytes s i e d h k l)))
+    let place : i + 1 ≡ s + length (between s i bytes) + 1 = omega (arith, length-between bytes s i (omega arith)) in
+    ap (λ ts. ts ++ tokens_from (i + 1) (between (i + 1) e bytes)) is
+    ∙ append_assoc before (not_empty s (between s i bytes)) (tokens_from (i + 1) (between (i + 1) e bytes))
+    ∙ ap (λ ts. before ++ ts)
+    (ap (λ n. not_empty s (between s i bytes) ++ tokens_from n (between (i + 1) e bytes)) place
+    ∙ sym (tokens_at s (between s i bytes) (get_or bytes i d) (between (i + 1) e bytes) none white)
+    ∙ ap (tokens_from s) (sym (between_cut bytes s i e d h k l)))
 
 -- the first of several pieces is no last piece
 first_piece : (piece : List ℕ) (pieces : List (List ℕ)) → 0 < length pieces → without_empty_end (piece ∷ pieces) ≡ piece ∷ without_empty_end pieces
@@ -69,22 +76,32 @@ drop_cut {X} xs s i d h k =
     ∙ ap (λ ys. between s i xs ++ (get_or xs i d ∷ ys)) (between_to_end xs (i + 1) (length xs) (omega arith))
 
 -- the physical lines from a place on begin with the one up to the next LF, or to the end
-pub physical_more : (bytes : List ℕ) (at end : ℕ) → at ≤ end → end ≤ length bytes → at < length bytes
-    → All (λ x. is_newline x ≡ false) (between at end bytes) → (end < length bytes → get_or bytes end 0 ≡ 10)
+pub physical_more : (bytes : List ℕ) (at end : ℕ) → at < length bytes → IsLineEnd bytes at end
     → physical_lines (drop at bytes) ≡ between at end bytes ∷ physical_lines (drop (end + 1) bytes)
-physical_more bytes at end h k l none ends =
+physical_more bytes at end l e =
     elim (cases_lt end (length bytes)) [
       | inl m ↦
           let whole : drop at bytes ≡ between at end bytes ++ (10 ∷ drop (end + 1) bytes) =
-          drop_cut bytes at end 0 h m ∙ ap (λ b. between at end bytes ++ (b ∷ drop (end + 1) bytes)) (ends m) in
-          ap physical_lines whole ∙ physical_line_at (between at end bytes) (drop (end + 1) bytes) none
+          drop_cut bytes at end 0 e.after m ∙ ap (λ b. between at end bytes ++ (b ∷ drop (end + 1) bytes)) (e.newline m) in
+          ap physical_lines whole ∙ physical_line_at (between at end bytes) (drop (end + 1) bytes) e.none
       | inr m ↦
           let whole : drop at bytes ≡ between at end bytes = sym (between_to_end bytes at end m) in
-          let some : 0 < length (between at end bytes) = omega (arith, length-between bytes at end k) in
+          let some : 0 < length (between at end bytes) = omega (arith, length-between bytes at end e.within) in
           let rest : drop (end + 1) bytes ≡ [] = drop_all (end + 1) bytes (omega arith) in
-          ap physical_lines whole ∙ physical_line_last (between at end bytes) some none
+          ap physical_lines whole ∙ physical_line_last (between at end bytes) some e.none
           ∙ ap (λ ys. between at end bytes ∷ physical_lines ys) (sym rest)
     ]
+
+-- what is left of a file from a place on, as its physical lines
+abbrev pub lines_left : ℕ → List ℕ → List Piece
+lines_left at bytes = pieces_from at (physical_lines (drop at bytes))
+
+pub lines_left_more : (bytes : List ℕ) (at end : ℕ) → at < length bytes → IsLineEnd bytes at end
+    → lines_left at bytes ≡ piece_between at end bytes ∷ lines_left (end + 1) bytes
+lines_left_more bytes at end l e =
+    let place : at + length (between at end bytes) + 1 ≡ end + 1 = omega (arith, length-between bytes at end e.within) in
+    ap (pieces_from at) (physical_more bytes at end l e)
+    ∙ ap (λ n. piece_between at end bytes ∷ pieces_from n (physical_lines (drop (end + 1) bytes))) place
 
 -- one byte more that doesn't pass
 pub none_more : (p : ℕ → Bool) (bytes : List ℕ) (s i d : ℕ) → s ≤ i → i < length bytes → All (λ x. p x ≡ false) (between s i bytes) → p (get_or bytes i d) ≡ false → All (λ x. p x ≡ false) (between s (i + 1) bytes)
@@ -97,12 +114,12 @@ pub none_yet : (p : ℕ → Bool) (bytes : List ℕ) (i : ℕ) → All (λ x. p 
 none_yet p bytes i = let P : ℕ → Type 0 = λ x. p x ≡ false in All-same P (between i i bytes) [] (between_none bytes i) (All-nil P)
 
 -- the last token of a line
-pub tokens_end : (bytes : List ℕ) (s i e : ℕ) (before after whole : List (List ℕ)) → e ≤ i → i ≤ e
-    → All (λ x. is_white x ≡ false) (between s i bytes) → before ++ tokens (between s e bytes) ≡ whole → after ≡ before ++ not_empty (between s e bytes) → after ≡ whole
+pub tokens_end : (bytes : List ℕ) (s i e : ℕ) (before after whole : List Piece) → e ≤ i → i ≤ e
+    → All (λ x. is_white x ≡ false) (between s i bytes) → before ++ tokens_from s (between s e bytes) ≡ whole → after ≡ before ++ not_empty s (between s e bytes) → after ≡ whole
 tokens_end bytes s i e before after whole h k none all is =
     let P : ℕ → Type 0 = λ n. All (λ x. is_white x ≡ false) (between s n bytes) in
     let same : i ≡ e = omega arith in
-    is ∙ ap (λ ts. before ++ ts) (sym (tokens_last (between s e bytes) (subst P same none))) ∙ all
+    is ∙ ap (λ ts. before ++ ts) (sym (tokens_last s (between s e bytes) (subst P same none))) ∙ all
 
 -- what stands before the comment of a line
 pub before_comment_at : (bytes : List ℕ) (from to n : ℕ) → from ≤ to → to ≤ length bytes → n ≤ length (between from to bytes) → n ≡ position_or_len is_comment_mark (between from to bytes)

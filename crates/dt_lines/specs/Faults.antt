@@ -1,9 +1,12 @@
 -- What makes a file's lines too many or too long to read (docs/LANGUAGE.md).
-use Rattle.std.specs.Prelude.{ℕ, ◌+◌, ◌==◌, Bool, not, nat_lt, List, [], ◌∷◌, length, Option, Some, None, if◌then◌else◌}
+use Rattle.std.specs.Prelude.{ℕ, ◌+◌, ◌==◌, Bool, not, nat_lt, if◌then◌else◌}
+use Rattle.std.specs.Prelude.{List, [], ◌∷◌, length, Option, Some, None}
 use Rattle.std.specs.List.{slice_split, list_any}
 use Rattle.std.specs.Option.{option_or}
 use Rattle.dt_values.specs.Names.{is_name_byte}
-use Rattle.dt_lines.specs.Lines.{physical_lines, line_tokens}
+use Rattle.dt_values.specs.declared.name.TheConstants.{LONGEST_NAME}
+use Rattle.dt_lines.specs.Lines.{physical_lines, before_comment}
+use Rattle.dt_lines.specs.declared.scan.TheConstants.{MOST_LINES}
 use Rattle.dt_lines.specs.declared.fault.LineFault.{LineFault}
 use Rattle.dt_lines.specs.declared.fault.LineFault.TheVariants as faults
 
@@ -12,17 +15,20 @@ pub data FileFault : Type 0 where
   too_many_lines : FileFault
   long_name : ℕ → FileFault
 
--- more than 128 name bytes in a row
-abbrev pub holds_long_name : List ℕ → Bool
-holds_long_name token = list_any (λ run. nat_lt 128 (length run)) (slice_split (λ b. not (is_name_byte b)) token)
+-- more name bytes in a row than a name has
+abbrev pub has_long_run : List ℕ → Bool
+has_long_run text = list_any (λ run. nat_lt LONGEST_NAME (length run)) (slice_split (λ b. not (is_name_byte b)) text)
 
--- so in some token; a comment is none
+-- so in some token: no white space is a name byte, and a comment is no token
 abbrev pub has_long_name : List ℕ → Bool
-has_long_name text = list_any holds_long_name (line_tokens text)
+has_long_name text = has_long_run (before_comment text)
 
 -- the fault of a physical line, by its number
 abbrev pub fault_of : ℕ → List ℕ → Option FileFault
-fault_of number text = if number == 65536 then Some too_many_lines else if has_long_name text then Some (long_name number) else None
+fault_of number text =
+    if number == MOST_LINES + 1 then Some too_many_lines
+    else if has_long_name text then Some (long_name number)
+    else None
 
 -- the fault of the first line that has one
 abbrev pub fault_from : ℕ → List (List ℕ) → Option FileFault
@@ -32,7 +38,7 @@ fault_from number (text ∷ texts) = option_or (fault_of number text) (fault_fro
 abbrev pub line_fault : List ℕ → Option FileFault
 line_fault bytes = fault_from 1 (physical_lines bytes)
 
--- how a fault is told
-abbrev pub fault_told : FileFault → LineFault
-fault_told too_many_lines = faults.TooManyLines
-fault_told (long_name line) = faults.LongName line
+-- the variant that stands for a fault
+abbrev pub variant_of : FileFault → LineFault
+variant_of too_many_lines = faults.TooManyLines
+variant_of (long_name line) = faults.LongName line

@@ -1,5 +1,6 @@
 pub mod Lines
 pub mod Spans
+pub mod Places
 pub mod Faults
 pub mod SoFar
 pub mod Gathering

@@ -1,34 +1,45 @@
 //! What keeps a file from being read as lines.
 
 ghost use Rattle.std.specs.Prelude.{◌≡◌, ◌≤◌, length};
-ghost use Rattle.std.specs.List.{list_any};
 ghost use Rattle.std.specs.Option.{option_map};
-ghost use Rattle.dt_lines.specs.Lines.{tokens};
-ghost use Rattle.dt_lines.specs.Faults.{fault_of, fault_told, has_long_name, holds_long_name, line_fault};
+ghost use Rattle.dt_lines.specs.Faults.{fault_of, has_long_name, has_long_run, line_fault, variant_of};
 
 use crate::physical::line_end;
-use crate::scan::LARGEST_FILE;
-use crate::token::{comment_start, is_white};
+use crate::scan::{LARGEST_FILE, MOST_LINES};
+use crate::token::comment_start;
 use dt_values::name::{LONGEST_NAME, is_name_byte};
-
-// The first line that is one too many.
-const LINE_TOO_MANY: u32 = 65_536;
+use std::alloc::AllocError;
+use thiserror::Error;
 
 /// Why a file has no logical lines.
-#[derive(Clone, Copy, Debug, PartialEq, Eq)]
+#[derive(Clone, Copy, Debug, PartialEq, Eq, Error)]
 pub enum LineFault {
-    /// It has 65,536 physical lines or more.
+    /// It has more than `MOST_LINES` physical lines.
+    #[error("there are too many lines")]
     TooManyLines,
-    /// The physical line of this number, from 1, is the first that has a token with more than 128 name bytes in a row.
+    /// The physical line of this number, from 1, is the first that has a token with more than `LONGEST_NAME`
+    /// name bytes in a row.
+    #[error("line {0} has too long a name")]
     LongName(u32),
-    /// There was no memory for them.
+    /// Memory ran out.
+    #[error("out of memory")]
     NoMemory,
+}
+
+impl From<AllocError> for LineFault {
+    ghost use Rattle.dt_lines.specs.declared.fault.LineFault.TheVariants as faults;
+
+    ghost from_gives = { λ error fault. fault ≡ faults.NoMemory };
+
+    fn from(_error: AllocError) -> LineFault {
+        LineFault::NoMemory
+    }
 }
 
 // The fault of the first line that has one.
 pub(crate) fn first_fault(bytes: &[u8]) -> Option<LineFault>
     requires { length bytes.now ≤ LARGEST_FILE }
-    ensures { result ≡ option_map fault_told (line_fault bytes.now) }
+    ensures { result ≡ option_map variant_of (line_fault bytes.now) }
 {
     let mut line = 0;
     let mut at = 0;
@@ -46,9 +57,9 @@ pub(crate) fn first_fault(bytes: &[u8]) -> Option<LineFault>
 
 // The fault of a physical line.
 fn fault_of(line: u32, text: &[u8]) -> Option<LineFault>
-    ensures { result ≡ option_map fault_told (fault_of line text.now) }
+    ensures { result ≡ option_map variant_of (fault_of line text.now) }
 {
-    if line == LINE_TOO_MANY {
+    if line as usize == MOST_LINES + 1 {
         return Some(LineFault::TooManyLines);
     }
     if has_long_name(text) {
@@ -57,37 +68,21 @@ fn fault_of(line: u32, text: &[u8]) -> Option<LineFault>
     None
 }
 
+// Whether some token of a physical line has too long a name.
 fn has_long_name(text: &[u8]) -> bool
     ensures { result ≡ has_long_name text.now }
 {
     let (bare, _) = text.split_at(comment_start(text));
-    some_token_is_long(bare)
+    has_long_run(bare)
 }
 
-// Whether some token of a text without a comment holds a long name.
-fn some_token_is_long(bare: &[u8]) -> bool
-    ensures { result ≡ list_any holds_long_name (tokens bare.now) }
+// Whether a text has more name bytes in a row than a name has.
+fn has_long_run(text: &[u8]) -> bool
+    ensures { result ≡ has_long_run text.now }
 {
     let mut start = 0;
-    for at in 0..bare.len() {
-        if !is_white(bare[at]) {
-            continue;
-        }
-        if holds_long_name(&bare[start..at]) {
-            return true;
-        }
-        start = at + 1;
-    }
-    holds_long_name(&bare[start..bare.len()])
-}
-
-// Whether a token has more name bytes in a row than a name has.
-fn holds_long_name(token: &[u8]) -> bool
-    ensures { result ≡ holds_long_name token.now }
-{
-    let mut start = 0;
-    for at in 0..token.len() {
-        if is_name_byte(token[at]) {
+    for at in 0..text.len() {
+        if is_name_byte(text[at]) {
             continue;
         }
         if at - start > LONGEST_NAME {
@@ -95,5 +90,5 @@ fn holds_long_name(token: &[u8]) -> bool
         }
         start = at + 1;
     }
-    token.len() - start > LONGEST_NAME
+    text.len() - start > LONGEST_NAME
 }

@@ -1,14 +1,15 @@
 //! Gathers a logical line from the physical lines that it goes over.
 
-ghost use Rattle.std.specs.Prelude.{◌≡◌, ◌+◌, ◌-◌, ℕ, List, [], ◌∷◌, ◌++◌, length, map, take, IfOk, OnOk};
-ghost use Rattle.std.specs.List.{between};
-ghost use Rattle.dt_lines.specs.Lines.{is_blank, is_backslash, ends_in_backslash, end_or_go_on, lines_from, continued};
-ghost use Rattle.dt_lines.specs.Spans.{text_at, line_seen, AreSpans};
+ghost use Rattle.std.specs.Prelude.{◌≡◌, ◌-◌, ℕ, List, [], ◌∷◌, ◌++◌, length, map, take, IfOk, OnOk};
+ghost use Rattle.dt_lines.specs.Lines.{is_blank, is_backslash, ends_in_backslash};
+ghost use Rattle.dt_lines.specs.Spans.{AreSpans};
 ghost use Rattle.dt_lines.specs.SoFar.{AreSpansTo, IsNext, AreLinesOf};
-ghost use Rattle.dt_lines.specs.Gathering.{gathered_line, is_skipped, joined_line, lines_after};
+ghost use Rattle.dt_lines.specs.Gathering.{gathered_line, is_skipped, line_with, piece_at, piece_between, placed_line};
+ghost use Rattle.dt_lines.specs.Gathering.{reading, EndsOrGoesOn, TakesLine};
 
-use crate::line::{Logical, Span, Tokens};
+use crate::line::{Logical, Position, Span};
 use crate::token::{indentation, is_white, push_line_tokens};
+use dt_values::Items;
 use std::alloc::{AllocError, Global};
 
 // The logical line that is gathered so far: the number and the column of its first physical line, and its tokens.
@@ -20,21 +21,16 @@ pub(crate) struct Gathered {
     pub(crate) tokens: Vec<Span>,
 }
 
-// Where a physical line stands.
-#[derive(Clone, Copy)]
-pub(crate) struct Place {
-    pub(crate) file: u16,
-    pub(crate) line: u32,
-}
-
-// Nothing.
-pub(crate) fn nothing(alloc: Global) -> Gathered
-    ensures { result.tokens.items ≡ [] }
-{
-    Gathered {
-        line: 0,
-        indent: 0,
-        tokens: Vec::new(alloc),
+impl Gathered {
+    // Nothing.
+    pub(crate) fn new(alloc: Global) -> Gathered
+        ensures { result.tokens.items ≡ [] }
+    {
+        Gathered {
+            line: 0,
+            indent: 0,
+            tokens: Vec::new(alloc),
+        }
     }
 }
 
@@ -43,26 +39,27 @@ pub(crate) fn next_line(
     alloc: Global,
     lines: &mut Vec<Logical>,
     gathered: Gathered,
-    place: Place,
+    position: Position,
     bytes: &[u8],
     from: usize,
     to: usize,
 ) -> Result<Gathered, AllocError>
     requires next { IsNext (length bytes.now) from to gathered.tokens.items }
-    requires file { AreLinesOf place.file (length bytes.now) lines.old.items }
-    ensures lines { IfOk result (λ g. (texts : List (List ℕ)) → map (line_seen bytes.now) lines.new.items ++ lines_after (gathered_line bytes.now g) (place.line + 1) texts ≡ map (line_seen bytes.now) lines.old.items ++ lines_after (gathered_line bytes.now gathered) place.line (between from to bytes.now ∷ texts)) }
-    ensures file { OnOk result (AreLinesOf place.file (length bytes.now) lines.new.items) }
+    requires file { AreLinesOf position.file (length bytes.now) lines.old.items }
+    ensures lines { IfOk result (λ g. TakesLine (reading bytes.now lines.old.items gathered) position.line
+        (piece_between from to bytes.now) (reading bytes.now lines.new.items g)) }
+    ensures file { OnOk result (AreLinesOf position.file (length bytes.now) lines.new.items) }
     ensures spans { IfOk result (λ g. AreSpansTo (length bytes.now) to g.tokens.items) }
 {
     if is_skipped(&gathered, &bytes[from..to]) {
-        return Ok(nothing(alloc));
+        return Ok(Gathered::new(alloc));
     }
-    let joined = joined(gathered, place.line, bytes, from, to)?;
-    end_or_go_on(alloc, lines, joined, place.file, bytes)
+    let longer = lengthen(gathered, position.line, bytes, from, to)?;
+    end_or_go_on(alloc, lines, longer, position.file, bytes)
 }
 
 // What is gathered, with the tokens of a physical line behind it.
-fn joined(
+fn lengthen(
     gathered: Gathered,
     line: u32,
     bytes: &[u8],
@@ -70,15 +67,16 @@ fn joined(
     to: usize,
 ) -> Result<Gathered, AllocError>
     requires { IsNext (length bytes.now) from to gathered.tokens.items }
-    ensures line { IfOk result (λ g. gathered_line bytes.now g ≡ joined_line (gathered_line bytes.now gathered) line (between from to bytes.now)) }
+    ensures line { IfOk result (λ g. gathered_line bytes.now g
+        ≡ line_with (gathered_line bytes.now gathered) line (piece_between from to bytes.now)) }
     ensures spans { IfOk result (λ g. AreSpansTo (length bytes.now) to g.tokens.items) }
 {
     let first = gathered.line;
     let indent = gathered.indent;
     let mut tokens = gathered.tokens;
-    let anew = tokens.is_empty();
+    let is_first = tokens.is_empty();
     push_line_tokens(&mut tokens, bytes, from, to)?;
-    if anew {
+    if is_first {
         return Ok(Gathered {
             line,
             indent: indentation(&bytes[from..to]),
@@ -102,15 +100,17 @@ fn end_or_go_on(
 ) -> Result<Gathered, AllocError>
     requires spans { AreSpans (length bytes.now) gathered.tokens.items }
     requires file { AreLinesOf file (length bytes.now) lines.old.items }
-    ensures lines { IfOk result (λ g. (number : ℕ) → (texts : List (List ℕ)) → map (line_seen bytes.now) lines.new.items ++ lines_after (gathered_line bytes.now g) number texts ≡ map (line_seen bytes.now) lines.old.items ++ end_or_go_on (gathered_line bytes.now gathered) (lines_from number texts) (λ line. continued line number texts)) }
+    ensures lines { IfOk result (λ g. EndsOrGoesOn (reading bytes.now lines.old.items gathered)
+        (reading bytes.now lines.new.items g)) }
     ensures file { OnOk result (AreLinesOf file (length bytes.now) lines.new.items) }
-    ensures spans { IfOk result (λ g. (place : ℕ) → AreSpansTo (length bytes.now) place gathered.tokens.items → AreSpansTo (length bytes.now) place g.tokens.items) }
+    ensures spans { IfOk result (λ g. (place : ℕ) → AreSpansTo (length bytes.now) place gathered.tokens.items
+        → AreSpansTo (length bytes.now) place g.tokens.items) }
 {
     if ends_in_backslash(bytes, gathered.tokens.as_slice()) {
         return Ok(without_last(gathered));
     }
     end_line(lines, gathered, file)?;
-    Ok(nothing(alloc))
+    Ok(Gathered::new(alloc))
 }
 
 // What is gathered, without its last token.
@@ -138,8 +138,10 @@ pub(crate) fn end_line(
     gathered: Gathered,
     file: u16,
 ) -> Result<(), AllocError>
-    ensures lines { OnOk result ((bytes : List ℕ) → map (line_seen bytes) lines.new.items ≡ map (line_seen bytes) lines.old.items ++ gathered_line bytes gathered ∷ []) }
-    ensures file { OnOk result ((length : ℕ) → AreSpans length gathered.tokens.items → AreLinesOf file length lines.old.items → AreLinesOf file length lines.new.items) }
+    ensures lines { OnOk result ((bytes : List ℕ) → map (placed_line bytes) lines.new.items
+        ≡ map (placed_line bytes) lines.old.items ++ gathered_line bytes gathered ∷ []) }
+    ensures file { OnOk result ((length : ℕ) → AreSpans length gathered.tokens.items
+        → AreLinesOf file length lines.old.items → AreLinesOf file length lines.new.items) }
 {
     let Gathered {
         line,
@@ -150,7 +152,7 @@ pub(crate) fn end_line(
         file,
         line,
         indent,
-        tokens: Tokens::of(tokens),
+        tokens: Items::of(tokens),
     })?;
     Ok(())
 }
@@ -171,7 +173,7 @@ fn is_blank(text: &[u8]) -> bool
 
 fn ends_in_backslash(bytes: &[u8], spans: &[Span]) -> bool
     requires { AreSpans (length bytes.now) spans.now }
-    ensures { result ≡ ends_in_backslash (map (text_at bytes.now) spans.now) }
+    ensures { result ≡ ends_in_backslash (map (piece_at bytes.now) spans.now) }
 {
     match spans.split_last() {
         Some((last, _)) => is_backslash(last.text(bytes)),

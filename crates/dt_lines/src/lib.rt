@@ -10,9 +10,9 @@ pub mod scan;
 mod token;
 
 pub use fault::LineFault;
-pub use line::{Logical, Span, Tokens};
+pub use line::{Logical, Position, Span, TokenList};
 pub use physical::line_count;
-pub use scan::LARGEST_FILE;
+pub use scan::{LARGEST_FILE, MOST_LINES};
 
 #[cfg(test)]
 mod tests;

@@ -3,7 +3,7 @@
 ghost use Rattle.std.specs.Prelude.{◌≡◌, length};
 ghost use Rattle.dt_lines.specs.Spans.{IsWithin, text_at};
 
-use std::marker::Model;
+use dt_values::Items;
 
 /// A place in a file: the bytes from `start` up to `end`, counted from 0.
 #[derive(Clone, Copy, Debug, PartialEq, Eq)]
@@ -23,34 +23,14 @@ impl Span {
 }
 
 /// The tokens of a line, as their places in the file, in order.
-#[derive(Debug, Drop)]
-pub struct Tokens {
-    items: Vec<Span>,
-}
+pub type TokenList = Items<Span>;
 
-impl Model for Tokens {
-    ghost use Rattle.std.specs.Prelude.{List};
-    ghost use Rattle.dt_lines.specs.declared.line.Span.{Span};
-
-    ghost Value = { List Span };
-
-    ghost view = { λ s. s.items.items };
-}
-
-impl Tokens {
-    /// These tokens.
-    pub fn of(items: Vec<Span>) -> Tokens
-        ensures { result ≡ items.items }
-    {
-        Tokens { items }
-    }
-
-    /// The tokens' places.
-    pub fn items(&self) -> &[Span]
-        ensures { result.now ≡ self.now }
-    {
-        self.items.as_slice()
-    }
+/// A line of one of the files that are read together: the place of its file among them, from 0, and its number in it,
+/// from 1.
+#[derive(Clone, Copy, Debug, PartialEq, Eq)]
+pub struct Position {
+    pub file: u16,
+    pub line: u32,
 }
 
 /// A logical line: the place of its file among all files, from 0; the number of its first physical line in the file,
@@ -61,5 +41,5 @@ pub struct Logical {
     pub file: u16,
     pub line: u32,
     pub indent: u32,
-    pub tokens: Tokens,
+    pub tokens: TokenList,
 }

@@ -1,8 +1,8 @@
 //! The physical lines of a file.
 
-ghost use Rattle.std.specs.Prelude.{false, ◌≡◌, ◌<◌, ◌≤◌, length, slice_index, All};
-ghost use Rattle.std.specs.List.{between};
-ghost use Rattle.dt_lines.specs.Lines.{is_newline, physical_lines};
+ghost use Rattle.std.specs.Prelude.{◌≡◌, ◌≤◌, length};
+ghost use Rattle.dt_lines.specs.Lines.{physical_lines};
+ghost use Rattle.dt_lines.specs.SoFar.{IsLineEnd};
 
 use crate::scan::LARGEST_FILE;
 
@@ -21,13 +21,10 @@ pub fn line_count(bytes: &[u8]) -> u32
     count
 }
 
-// The place of the first LF from a place on, or the end.
+// Where the physical line from a place on ends: at the first LF, or at the end of the file.
 pub(crate) fn line_end(bytes: &[u8], at: usize) -> usize
     requires { at ≤ length bytes.now }
-    ensures after { at ≤ result }
-    ensures within { result ≤ length bytes.now }
-    ensures none { All (λ b. is_newline b ≡ false) (between at result bytes.now) }
-    ensures end { result < length bytes.now → slice_index bytes.now result ≡ 10 }
+    ensures { IsLineEnd bytes.now at result }
 {
     for end in at..bytes.len() {
         if bytes[end] == b'\n' {

@@ -1,7 +1,7 @@
 //! The lines of small files, and what keeps a file from being read.
 
 use crate::scan::{LARGEST_FILE, logical};
-use crate::{LineFault, Logical, Span, Tokens, line_count};
+use crate::{LineFault, Logical, Position, Span, TokenList, line_count};
 use std::alloc::{AllocError, Global};
 use std::test::Fail;
 
@@ -90,7 +90,7 @@ fn fault_of(alloc: Global, bytes: &[u8]) -> Option<LineFault> {
 }
 
 #[test]
-fn a_long_name_is_told_by_its_line(rt: HostRuntime) -> Result<(), Fail> {
+fn a_long_name_is_refused_by_its_line(rt: HostRuntime) -> Result<(), Fail> {
     let table: [(&[u8], usize, &[u8], Option<LineFault>); 7] = [
         (
             b"a \\\n\\\nb ",
@@ -147,7 +147,38 @@ fn a_file_of_the_largest_size_is_read(rt: HostRuntime) -> Result<(), Fail> {
 #[test]
 fn tokens_are_shown_as_they_were_given(rt: HostRuntime) -> Result<(), Fail> {
     let span = Span { start: 2, end: 5 };
-    let tokens = Tokens::of(vec![in rt.alloc(); span]?);
+    let tokens = TokenList::of(vec![in rt.alloc(); span]?);
     assert_eq!(rt; tokens.items(), [span].as_slice());
+    Ok(())
+}
+
+#[test]
+fn equal_tokens_lie_where_they_stand(rt: HostRuntime) -> Result<(), Fail> {
+    let bytes = b"a a \\\na # a\na \\\na \\\n\\\na";
+    let rows: [&[(u32, u32)]; 2] = [&[(0, 1), (2, 3), (6, 7)], &[(12, 13), (16, 17), (22, 23)]];
+    let lines = logical(rt.alloc(), 0, bytes)?;
+    assert_eq!(rt; lines.len(), rows.len());
+    for (line, row) in lines.iter().zip(rows) {
+        assert_eq!(rt; line.tokens.items().len(), row.len());
+        for (span, (start, end)) in line.tokens.items().iter().zip(row) {
+            assert_eq!(rt; (span.start, span.end), (*start, *end));
+        }
+    }
+    Ok(())
+}
+
+#[test]
+fn faults_have_messages(rt: HostRuntime) -> Result<(), Fail> {
+    let table = [
+        (LineFault::TooManyLines, "there are too many lines"),
+        (LineFault::LongName(7), "line 7 has too long a name"),
+        (LineFault::NoMemory, "out of memory"),
+        (LineFault::from(AllocError), "out of memory"),
+    ];
+    for (fault, message) in table {
+        assert_eq!(rt; fault.to_string(rt.alloc())?.as_str(), message);
+    }
+    let position = Position { file: 2, line: 7 };
+    assert_eq!(rt; position, Position { file: 2, line: 7 });
     Ok(())
 }

@@ -3,7 +3,7 @@
 ghost use Rattle.std.specs.Prelude.{◌≡◌, ◌+◌, ◌*◌, ◌≤◌, ◌++◌, length, map, OnOk};
 ghost use Rattle.std.specs.List.{between, position_or_len};
 ghost use Rattle.dt_lines.specs.Lines.{indentation, is_comment_mark, is_white, line_tokens, next_column, not_empty};
-ghost use Rattle.dt_lines.specs.Spans.{text_at};
+ghost use Rattle.dt_lines.specs.Gathering.{piece_at, piece_between};
 ghost use Rattle.dt_lines.specs.SoFar.{AreSpansTo, IsNext};
 
 use crate::line::Span;
@@ -38,7 +38,8 @@ pub(crate) fn push_line_tokens(
     to: usize,
 ) -> Result<(), AllocError>
     requires { IsNext (length bytes.now) from to spans.old.items }
-    ensures tokens { OnOk result (map (text_at bytes.now) spans.new.items ≡ map (text_at bytes.now) spans.old.items ++ line_tokens (between from to bytes.now)) }
+    ensures tokens { OnOk result (map (piece_at bytes.now) spans.new.items
+        ≡ map (piece_at bytes.now) spans.old.items ++ line_tokens (piece_between from to bytes.now)) }
     ensures spans { OnOk result (AreSpansTo (length bytes.now) to spans.new.items) }
 {
     let end = from + comment_start(&bytes[from..to]);
@@ -62,7 +63,8 @@ fn push_span(
     end: usize,
 ) -> Result<(), AllocError>
     requires { IsNext (length bytes.now) start end spans.old.items }
-    ensures tokens { OnOk result (map (text_at bytes.now) spans.new.items ≡ map (text_at bytes.now) spans.old.items ++ not_empty (between start end bytes.now)) }
+    ensures tokens { OnOk result (map (piece_at bytes.now) spans.new.items
+        ≡ map (piece_at bytes.now) spans.old.items ++ not_empty start (between start end bytes.now)) }
     ensures spans { OnOk result (AreSpansTo (length bytes.now) end spans.new.items) }
 {
     if start < end {

@@ -2,26 +2,25 @@
 use Rattle.std.proofs.Common.{◌≡◌, List, ℕ, Option, Some, None, subst, inl, inr, ◌⊎◌, ⊎_elim}
 use Rattle.std.specs.Prelude.{IfSome}
 use Rattle.dt_io.specs.Files.{Files}
-use Rattle.dt_tool.specs.Answers.{Completes}
 use Rattle.dt_tool.specs.Due.{Due, written, refused, IsDue}
+use Rattle.dt_tool.specs.Outcomes.{Completes}
 use Rattle.dt_tool.specs.declared.status.Outcome.{Outcome}
 use Rattle.dt_tool.specs.declared.status.Outcome.TheVariants as outcomes
 use Rattle.dt_tool.proofs.OneDue.{one_due}
 
-pub completes : (told : Option Files) (words : List (List ℕ)) (made : Due) (outcome : Outcome) (ReadFailed WriteFailed : Type 0) → IfSome told (λ files. IsDue words files made)
-    → Completes made outcome ReadFailed WriteFailed → IfSome told (λ files. (what : Due) → IsDue words files what → Completes what outcome ReadFailed WriteFailed)
-completes None words made outcome ReadFailed WriteFailed due is = tt
-completes (Some files) words made outcome ReadFailed WriteFailed due is = λ what h. subst (λ (d : Due). Completes d outcome ReadFailed WriteFailed) (one_due words files made what due h) is
+pub completes : (words : List (List ℕ)) (files : Files) (made : Due) (outcome : Outcome) (ReadFailed WriteFailed : Type 0) → IsDue words files made
+    → Completes made outcome ReadFailed WriteFailed → (what : Due) → IsDue words files what → Completes what outcome ReadFailed WriteFailed
+completes words files made outcome ReadFailed WriteFailed due is = λ what h. subst (λ (d : Due). Completes d outcome ReadFailed WriteFailed) (one_due words files made what due h) is
 
 -- a text that is due was written, or a write failed
-pub completes_written : (told : Option Files) (words : List (List ℕ)) (text : List ℕ) (outcome : Outcome) (ReadFailed WriteFailed : Type 0) → IfSome told (λ files. IsDue words files (written text))
+pub completes_written : (words : List (List ℕ)) (files : Files) (text : List ℕ) (outcome : Outcome) (ReadFailed WriteFailed : Type 0) → IsDue words files (written text)
     → (outcome ≡ outcomes.Done) ⊎ (outcome ≡ outcomes.WriteFault) → (outcome ≡ outcomes.WriteFault → WriteFailed)
-    → IfSome told (λ files. (what : Due) → IsDue words files what → Completes what outcome ReadFailed WriteFailed)
-completes_written told words text outcome ReadFailed WriteFailed due either cause =
-    completes told words (written text) outcome ReadFailed WriteFailed due
+    → (what : Due) → IsDue words files what → Completes what outcome ReadFailed WriteFailed
+completes_written words files text outcome ReadFailed WriteFailed due either cause =
+    completes words files (written text) outcome ReadFailed WriteFailed due
     (⊎_elim (λ (done : outcome ≡ outcomes.Done). inl done) (λ (fault : outcome ≡ outcomes.WriteFault). inr (inr (inr (cause fault)))) either)
 
 -- a refusal that is due was said
-pub completes_refused : (told : Option Files) (words : List (List ℕ)) (message : List ℕ) (outcome : Outcome) (ReadFailed WriteFailed : Type 0) → IfSome told (λ files. IsDue words files (refused message))
-    → outcome ≡ outcomes.Refused → IfSome told (λ files. (what : Due) → IsDue words files what → Completes what outcome ReadFailed WriteFailed)
-completes_refused told words message outcome ReadFailed WriteFailed due is = completes told words (refused message) outcome ReadFailed WriteFailed due (inl is)
+pub completes_refused : (words : List (List ℕ)) (files : Files) (message : List ℕ) (outcome : Outcome) (ReadFailed WriteFailed : Type 0) → IsDue words files (refused message)
+    → outcome ≡ outcomes.Refused → (what : Due) → IsDue words files what → Completes what outcome ReadFailed WriteFailed
+completes_refused words files message outcome ReadFailed WriteFailed due is = completes words files (refused message) outcome ReadFailed WriteFailed due (inl is)

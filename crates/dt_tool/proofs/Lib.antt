@@ -1,13 +1,5 @@
-pub mod Saying
-pub mod Writing
-pub mod FirstNames
-pub mod Law
-pub mod Rules
-pub mod Declared
-pub mod Chains
-pub mod Decoding
 pub mod OneDue
-pub mod Overlaps
 pub mod Refusing
 pub mod Contents
 pub mod Completing
+pub mod Right

@@ -1,106 +1,140 @@
 -- A refusal says what is due.
-use Rattle.std.proofs.Common.{◌≡◌, ℕ, ◌<◌, ◌≤◌, List, [], ◌∷◌, length, map, get_or, Option, Some, None, refl, ap, sym, ◌∙◌, subst}
-use Rattle.std.specs.Prelude.{Result, Ok, Err, Vec, All, IfOk, MatchResult, IsErrAnd}
+use Rattle.std.proofs.Common.{◌≡◌, ℕ, ◌≤◌, List, [], ◌∷◌, length, Option, Some, None, refl, ap, sym, ◌∙◌, subst, inr}
+use Rattle.std.specs.Prelude.{Result, Ok, Err, Vec, IfOk, MatchResult, IsErrAnd}
+use Rattle.std.specs.Option.{option_map, option_or}
 use Rattle.std.specs.declared.alloc.Global.{Global}
-use Rattle.std.proofs.lemmas.List.{length-map}
-use Rattle.std.proofs.lemmas.List.Elements.{Contains-get_or}
-use Rattle.dt_lines.specs.Faults as faults
-use Rattle.dt_lines.specs.Faults.{FileFault, line_fault}
-use Rattle.dt_forms.specs.declared.form.Pattern.{Pattern as Kept}
-use Rattle.dt_forms.specs.Patterns.{Pattern}
-use Rattle.dt_forms.specs.Rules.{Fault, first_fault}
-use Rattle.dt_forms.specs.View.{pattern_seen, fault_seen, texts_of, text_of_file, IsReported}
+use Rattle.dt_values.specs.Widths.{width_bits}
+use Rattle.dt_lines.specs.Faults.{FileFault, too_many_lines, long_name, line_fault}
+use Rattle.dt_lines.specs.declared.line.Position.{Position}
+use Rattle.dt_lines.specs.declared.scan.TheConstants.{LARGEST_FILE}
+use Rattle.dt_fields.specs.declared.rule.Detail.{Detail as Made}
+use Rattle.dt_fields.specs.declared.rule.Detail.TheVariants as details
 use Rattle.dt_forms.specs.declared.fault.Fault.{Fault as Reported}
+use Rattle.dt_forms.specs.declared.fault.ModelFault.{ModelFault}
+use Rattle.dt_forms.specs.declared.fault.ModelFault.TheVariants as faults
 use Rattle.dt_forms.specs.declared.source.Source.{Source}
-use Rattle.dt_forms.proofs.AllFaults.{fault_of_one_file}
-use Rattle.dt_tree.specs.Knots.{pattern_at, IsFirstKnot}
-use Rattle.dt_tree.specs.Refusals.{file_and_line, ShowsFirstKnot}
-use Rattle.dt_tool.specs.Messages as said
-use Rattle.dt_tool.specs.Verdicts.{broken, overlapping, width, limit, first_of, first_broken, file_patterns}
+use Rattle.dt_forms.specs.FileFaults.{fault_in_file, file_fault, fault_of_files, first_broken}
+use Rattle.dt_forms.specs.Options.{default_options}
+use Rattle.dt_forms.specs.Patterns.{FlatPattern, flat_list}
+use Rattle.dt_forms.specs.Rules.{Detail, nothing, Fault, first_fault}
+use Rattle.dt_forms.specs.View.{IsDetailWithin, IsReported, FileBroken, ModelBroken, detail_seen, fault_seen, text_of_file}
+use Rattle.dt_tree.specs.Refusals.{ShowsFirstKnot}
+use Rattle.dt_tree.specs.Verdicts.{broken, overlapping}
 use Rattle.dt_tool.specs.Due.{Due, refused, IsDueOf}
-use Rattle.dt_tool.specs.Stops.{AnswersDue, Refuses, RefusesKnot}
+use Rattle.dt_tool.specs.Messages as said
+use Rattle.dt_tool.specs.Refusals.{IsFaultWithin, NamesFault, NamesKnot, RefusesFault, RefusesKnot, SaysFault, SaysThis}
+use Rattle.dt_tool.specs.Stops.{AnswersDue, Refuses}
 use Rattle.dt_tool.specs.declared.generate.Stop.{Stop}
 use Rattle.dt_tool.specs.declared.generate.Stop.TheVariants as stops
 
--- a rule that the file breaks first is due
-pub broken_due : (file bytes : List ℕ) (fault : Fault) → length bytes ≤ limit → first_broken bytes ≡ Some fault → IsDueOf file bytes (refused (said.broken file fault))
-broken_due file bytes fault small first = record { verdict = broken fault; stands = record { small = small; first = first }; due = refl }
+-- a message is said, if there is memory for it
+pub says_this : {E : Type 0} (message : Result (Vec ℕ Global) E) (stop : Stop) (text : List ℕ) → IfOk message (λ made. made.items ≡ text)
+    → MatchResult message (λ made. stop ≡ stops.Refused made) (λ _. stop ≡ stops.NoMemory) → SaysThis stop text
+says_this (Ok made) stop text made_is stop_is =
+    let P : Stop → Type 0 = λ s. SaysThis s text in
+    subst P (sym stop_is) (ap refused made_is)
+says_this (Err e) stop text made_is stop_is = let P : Stop → Type 0 = λ s. SaysThis s text in subst P (sym stop_is) tt
 
--- too many lines or a long name come first
-pub file_fault_due : (file bytes : List ℕ) (found : FileFault) (fault : Fault) → length bytes ≤ limit → line_fault bytes ≡ Some found → first_of (Some found) (first_fault width (bytes ∷ [])) ≡ Some fault
-    → IsDueOf file bytes (refused (said.broken file fault))
-file_fault_due file bytes found fault small is first = broken_due file bytes fault small (ap (λ f. first_of f (first_fault width (bytes ∷ []))) is ∙ first)
-
--- then the rules of lines
-pub line_due : (file bytes : List ℕ) (fault : Fault) → length bytes ≤ limit → line_fault bytes ≡ None → first_fault width (bytes ∷ []) ≡ Some fault → IsDueOf file bytes (refused (said.broken file fault))
-line_due file bytes fault small none first = broken_due file bytes fault small (ap (λ f. first_of f (first_fault width (bytes ∷ []))) none ∙ first)
-
--- what is refused is what is due
-pub refuses_this : (stop : Stop) (IsDue : Due → Type 0) (what : Due) → IsDue what → Refuses stop (λ due. due ≡ what) → Refuses stop IsDue
-refuses_this stops.Usage IsDue what due is = is
-refuses_this (stops.ReadFault message) IsDue what due is = is
-refuses_this (stops.Refused message) IsDue what due is = subst IsDue (sym is) due
-refuses_this stops.NoMemory IsDue what due is = tt
-
--- a message says it, if there is memory
-pub refuses : {E : Type 0} (message : Result (Vec ℕ Global) E) (stop : Stop) (IsDue : Due → Type 0) (text : List ℕ) → IsDue (refused text) → IfOk message (λ made. made.items ≡ text)
-    → MatchResult message (λ made. stop ≡ stops.Refused made) (λ _. stop ≡ stops.NoMemory) → Refuses stop IsDue
-refuses (Ok made) stop IsDue text due made_is stop_is =
-    let P : Stop → Type 0 = λ s. Refuses s IsDue in
-    subst P (sym stop_is) (subst (λ t. IsDue (refused t)) (sym made_is) due)
-refuses (Err e) stop IsDue text due made_is stop_is = let P : Stop → Type 0 = λ s. Refuses s IsDue in subst P (sym stop_is) tt
-
--- what is reported of one file is due
-pub reported_due : (file : List ℕ) (files : List Source) (source : Source) (bytes : List ℕ) (fault : Reported) → files ≡ source ∷ [] → bytes ≡ source.bytes → length source.bytes ≤ limit → line_fault source.bytes ≡ None
-    → IsReported (text_of_file files fault.file) fault (first_fault width (texts_of files)) → IsDueOf file source.bytes (refused (said.broken file (fault_seen bytes fault)))
-reported_due file files source bytes fault one read small none reported =
-    let alone : IsReported (text_of_file (source ∷ []) fault.file) fault (first_fault width (source.bytes ∷ [])) =
-    subst (λ (fs : List Source). IsReported (text_of_file fs fault.file) fault (first_fault width (texts_of fs))) one reported in
-    let first : fault.file ≡ 0 = fault_of_one_file width source.bytes (fault_seen (text_of_file (source ∷ []) fault.file) fault) (sym alone.same) in
-    let here : fault_seen (text_of_file (source ∷ []) fault.file) fault ≡ fault_seen source.bytes fault = ap (λ n. fault_seen (text_of_file (source ∷ []) n) fault) first in
-    subst (λ b. IsDueOf file source.bytes (refused (said.broken file (fault_seen b fault)))) (sym read)
-    (line_due file source.bytes (fault_seen source.bytes fault) small none (sym alone.same ∙ ap Some here))
-
--- where nothing is broken no rule of lines is
-pub unbroken_lines : (bytes : List ℕ) → first_broken bytes ≡ None → first_fault width (bytes ∷ []) ≡ None
-unbroken_lines bytes h = by_fault (line_fault bytes) h
+-- what is said names a fault that there is
+names_fault : (names : List (List ℕ)) (expected : Option Fault) (fault : Fault) (stop : Stop) → Some fault ≡ expected → SaysThis stop (said.broken names fault) → RefusesFault stop names expected
+names_fault names expected fault stops.Usage there says = says
+names_fault names expected fault (stops.ReadFault message) there says = says
+names_fault names expected fault (stops.Refused message) there says = record { fault = fault; there = sym there; shown = same_text message.items (said.broken names fault) says }
   where
-    by_fault : (found : Option FileFault) → first_of found (first_fault width (bytes ∷ [])) ≡ None → first_fault width (bytes ∷ []) ≡ None
-    by_fault None h = h
-    by_fault (Some faults.too_many_lines) h = absurd (cc)
-    by_fault (Some (faults.long_name line)) h = absurd (cc)
+    same_text : (a b : List ℕ) → refused a ≡ refused b → a ≡ b
+    same_text a b e = cc
+names_fault names expected fault stops.NoMemory there says = tt
+
+-- that memory runs out names none
+no_fault : (names : List (List ℕ)) (expected : Option Fault) (stop : Stop) → stop ≡ stops.NoMemory → RefusesFault stop names expected
+no_fault names expected stop is = let P : Stop → Type 0 = λ s. RefusesFault s names expected in subst P (sym is) tt
+
+pub reported_within : (sources : List Source) (fault : ModelFault) (expected : Option Fault) → ModelBroken sources fault expected → IsFaultWithin sources fault
+reported_within sources (faults.Broken fault) expected h = h.within
+reported_within sources faults.NoMemory expected h = tt
+
+-- what is reported of sources is refused
+pub reported_refused : (names : List (List ℕ)) (sources : List Source) (fault : ModelFault) (expected : Option Fault) (stop : Stop) → ModelBroken sources fault expected → SaysFault names sources fault stop → RefusesFault stop names expected
+reported_refused names sources (faults.Broken fault) expected stop h says = names_fault names expected (fault_seen (text_of_file sources fault.file) fault) stop h.same says
+reported_refused names sources faults.NoMemory expected stop h says = no_fault names expected stop says
+
+one_fault : (a b : Fault) → Some a ≡ Some b → a ≡ b
+one_fault a b e = cc
+
+-- a fault of a whole file has no detail
+has_no_detail : (bytes : List ℕ) (fault : Reported) (found : Option FileFault) → Some (fault_seen bytes fault) ≡ option_map (fault_in_file 0) found → detail_seen bytes fault.detail ≡ nothing
+has_no_detail bytes fault None e = absurd (cc)
+has_no_detail bytes fault (Some too_many_lines) e = ap (λ (f : Fault). f.broken.1) (one_fault (fault_seen bytes fault) (fault_in_file 0 too_many_lines) e)
+has_no_detail bytes fault (Some (long_name line)) e = ap (λ (f : Fault). f.broken.1) (one_fault (fault_seen bytes fault) (fault_in_file 0 (long_name line)) e)
+
+without_detail : (bytes : List ℕ) (detail : Made) → detail_seen bytes detail ≡ nothing → IsDetailWithin [] detail × (detail_seen [] detail ≡ detail_seen bytes detail)
+without_detail bytes details.None e = (tt, refl)
+without_detail bytes (details.Text span) e = absurd (cc)
+without_detail bytes (details.Named name) e = absurd (cc)
+without_detail bytes (details.Number n) e = absurd (cc)
+without_detail bytes (details.Mask m) e = absurd (cc)
+
+pub file_within : (bytes : List ℕ) (fault : ModelFault) → FileBroken bytes 0 fault (file_fault 0 bytes) → IsFaultWithin [] fault
+file_within bytes (faults.Broken fault) h = (without_detail bytes fault.detail (has_no_detail bytes fault (line_fault bytes) h.0.same)).0
+file_within bytes faults.NoMemory h = tt
+
+-- a fault of a whole file is refused, without its bytes
+pub file_refused : (names : List (List ℕ)) (bytes : List ℕ) (fault : ModelFault) (stop : Stop) → FileBroken bytes 0 fault (file_fault 0 bytes) → SaysFault names [] fault stop → RefusesFault stop names (file_fault 0 bytes)
+file_refused names bytes (faults.Broken fault) stop h says =
+    let same : detail_seen [] fault.detail ≡ detail_seen bytes fault.detail = (without_detail bytes fault.detail (has_no_detail bytes fault (line_fault bytes) h.0.same)).1 in
+    let seen : Detail → Fault = λ d. record { file = fault.file; line = fault.line; broken = (fault.rule, d) } in
+    names_fault names (file_fault 0 bytes) (fault_seen [] fault) stop (ap (λ (f : Fault). Some f) (ap seen same) ∙ h.0.same) says
+file_refused names bytes faults.NoMemory stop h says = no_fault names (file_fault 0 bytes) stop says
 
 -- a message names the members of the first knot, if there is memory
-pub refuses_knot : {E : Type 0} (message : Result (Vec ℕ Global) E) (stop : Stop) (file : List ℕ) (kept : List Kept) (shown : List (ℕ × ℕ)) → ShowsFirstKnot (map pattern_seen kept) shown
-    → ((members : List ℕ) → All (λ i. i < length kept) members → shown ≡ map (file_and_line (map pattern_seen kept)) members → IfOk message (λ made. made.items ≡ said.overlapping file (map (pattern_at (map pattern_seen kept)) members)))
-    → MatchResult message (λ made. stop ≡ stops.Refused made) (λ _. stop ≡ stops.NoMemory) → RefusesKnot stop file (map pattern_seen kept)
-refuses_knot {E} message stop file kept shown knot made = by_message message (made knot.members inside knot.each)
-  where
-    inside : All (λ i. i < length kept) knot.members
-    inside = λ k d h. subst (λ n. get_or knot.members k d < n) (length-map kept pattern_seen) (knot.first.knot.inside (get_or knot.members k d) (Contains-get_or knot.members k d h))
+pub refuses_knot : {E : Type 0} (message : Result (Vec ℕ Global) E) (stop : Stop) (names texts : List (List ℕ)) (ps : List FlatPattern) (positions : List Position) → ShowsFirstKnot ps positions
+    → IfOk message (λ made. made.items ≡ said.overlapping names texts positions)
+    → MatchResult message (λ made. stop ≡ stops.Refused made) (λ _. stop ≡ stops.NoMemory) → RefusesKnot stop names texts ps
+refuses_knot (Ok made) stop names texts ps positions knot made_is stop_is =
+    let P : Stop → Type 0 = λ s. RefusesKnot s names texts ps in
+    subst P (sym stop_is) (record { positions = positions; first = knot; shown = made_is })
+refuses_knot (Err e) stop names texts ps positions knot made_is stop_is = let P : Stop → Type 0 = λ s. RefusesKnot s names texts ps in subst P (sym stop_is) tt
 
-    by_message : (m : Result (Vec ℕ Global) E) → IfOk m (λ made. made.items ≡ said.overlapping file (map (pattern_at (map pattern_seen kept)) knot.members))
-        → MatchResult m (λ made. stop ≡ stops.Refused made) (λ _. stop ≡ stops.NoMemory) → RefusesKnot stop file (map pattern_seen kept)
-    by_message (Ok made) made_is stop_is =
-        let P : Stop → Type 0 = λ s. RefusesKnot s file (map pattern_seen kept) in
-        subst P (sym stop_is) (record {
-          members = map (pattern_at (map pattern_seen kept)) knot.members;
-          first = record { places = knot.members; first = knot.first; each = refl };
-          shown = made_is;
-        })
-    by_message (Err e) made_is stop_is = let P : Stop → Type 0 = λ s. RefusesKnot s file (map pattern_seen kept) in subst P (sym stop_is) tt
+-- what one file breaks first: what the whole file does, else what its lines do
+of_file : (bytes : List ℕ) (found expected : Option Fault) → file_fault 0 bytes ≡ found → option_or (option_or found None) (first_fault (width_bits default_options.width) (bytes ∷ [])) ≡ expected
+    → first_broken (width_bits default_options.width) (bytes ∷ []) ≡ expected
+of_file bytes found expected is e = ap (λ f. option_or (option_or f None) (first_fault (width_bits default_options.width) (bytes ∷ []))) is ∙ e
 
--- a knot of the file's patterns is due
-pub knot_due : (A : Type 0) (file bytes : List ℕ) (ps : List Pattern) (stop : Stop) → length bytes ≤ limit → first_broken bytes ≡ None → ps ≡ file_patterns bytes → RefusesKnot stop file ps
-    → AnswersDue {A = A} ⊥ (Err stop) (IsDueOf file bytes)
-knot_due A file bytes ps stops.Usage small unbroken are knot = absurd knot
-knot_due A file bytes ps (stops.ReadFault message) small unbroken are knot = absurd knot
-knot_due A file bytes ps (stops.Refused message) small unbroken are knot = record {
-  verdict = overlapping knot.members;
-  stands = (record { small = small; first = unbroken }, record { places = knot.first.places; first = subst (λ (qs : List Pattern). IsFirstKnot qs knot.first.places) are knot.first.first; each = knot.first.each ∙ ap (λ (qs : List Pattern). map (pattern_at qs) knot.first.places) are });
-  due = ap refused (sym knot.shown);
-}
-knot_due A file bytes ps stops.NoMemory small unbroken are knot = tt
+pub unbroken : (bytes : List ℕ) → file_fault 0 bytes ≡ None → first_fault (width_bits default_options.width) (bytes ∷ []) ≡ None → first_broken (width_bits default_options.width) (bytes ∷ []) ≡ None
+unbroken bytes whole lines = of_file bytes None None whole lines
+
+broken_due : (A : Type 0) (file bytes : List ℕ) (expected : Option Fault) (stop : Stop) → length bytes ≤ LARGEST_FILE
+    → ((fault : Fault) → expected ≡ Some fault → first_broken (width_bits default_options.width) (bytes ∷ []) ≡ Some fault)
+    → RefusesFault stop (file ∷ []) expected → AnswersDue {A = A} ⊥ (Err stop) (IsDueOf file bytes)
+broken_due A file bytes expected stops.Usage small first h = absurd h
+broken_due A file bytes expected (stops.ReadFault message) small first h = absurd h
+broken_due A file bytes expected (stops.Refused message) small first h =
+    inr (small, record { verdict = broken h.fault; stands = first h.fault h.there; due = ap refused (sym h.shown) })
+broken_due A file bytes expected stops.NoMemory small first h = tt
+
+-- a refusal of the whole file is due, and one of its lines
+pub file_due : (A : Type 0) (file bytes : List ℕ) (stop : Stop) → length bytes ≤ LARGEST_FILE → RefusesFault stop (file ∷ []) (file_fault 0 bytes) → AnswersDue {A = A} ⊥ (Err stop) (IsDueOf file bytes)
+file_due A file bytes stop small h = broken_due A file bytes (file_fault 0 bytes) stop small (λ fault is. of_file bytes (Some fault) (Some fault) is refl) h
+
+pub lines_due : (A : Type 0) (file bytes : List ℕ) (stop : Stop) → length bytes ≤ LARGEST_FILE → file_fault 0 bytes ≡ None
+    → RefusesFault stop (file ∷ []) (first_fault (width_bits default_options.width) (bytes ∷ [])) → AnswersDue {A = A} ⊥ (Err stop) (IsDueOf file bytes)
+lines_due A file bytes stop small whole h = broken_due A file bytes (first_fault (width_bits default_options.width) (bytes ∷ [])) stop small (λ fault is. of_file bytes None (Some fault) whole is) h
+
+-- and one of its overlaps
+pub knot_due : (A : Type 0) (file bytes : List ℕ) (ps : List FlatPattern) (stop : Stop) → length bytes ≤ LARGEST_FILE → first_broken (width_bits default_options.width) (bytes ∷ []) ≡ None
+    → ps ≡ flat_list (bytes ∷ []) → RefusesKnot stop (file ∷ []) (bytes ∷ []) ps → AnswersDue {A = A} ⊥ (Err stop) (IsDueOf file bytes)
+knot_due A file bytes ps stops.Usage small none are h = absurd h
+knot_due A file bytes ps (stops.ReadFault message) small none are h = absurd h
+knot_due A file bytes ps (stops.Refused message) small none are h =
+    inr (
+      small,
+      record {
+        verdict = overlapping h.positions;
+        stands = (none, subst (λ (qs : List FlatPattern). ShowsFirstKnot qs h.positions) are h.first);
+        due = ap refused (sym h.shown);
+      },
+    )
+knot_due A file bytes ps stops.NoMemory small none are h = tt
 
 -- what a `?` hands on
 pub handed_on : {A : Type 0} (P : Result (Vec ℕ A) Stop → Type 0) (result : Result (Vec ℕ A) Stop) (stop : Stop) → IsErrAnd result (λ handed. handed ≡ stop) → P (Err stop) → P result

@@ -1,11 +1,16 @@
--- What is due for words over files, whatever the outside does: in the order of refusals, the words, the input, what it breaks first.
-use Rattle.std.specs.Prelude.{◌≡◌, ◌<◌, ℕ, List, All, Option, Some, None, option_and_then}
+-- What is due for words over files, whatever the outside does: the words, the input, its size, then what the file breaks first (docs/COMMANDS.md).
+use Rattle.std.specs.Prelude.{◌≡◌, ◌<◌, ◌≤◌, ◌⊎◌, ℕ, List, [], ◌∷◌, length, All, Option, Some, None, option_and_then}
 use Rattle.std.specs.FinMap as map
+use Rattle.dt_values.specs.Widths.{width_bits}
 use Rattle.dt_io.specs.Files.{Files}
-use Rattle.dt_tool.specs.Words.{file_named}
-use Rattle.dt_tool.specs.Verdicts.{Verdict, kept, too_large, broken, overlapping, IsVerdict, file_patterns}
-use Rattle.dt_tool.specs.Layout.{layout}
+use Rattle.dt_lines.specs.declared.scan.TheConstants.{LARGEST_FILE}
+use Rattle.dt_forms.specs.Models.{definitions_of}
+use Rattle.dt_forms.specs.Options.{default_options}
+use Rattle.dt_tree.specs.Verdicts.{Verdict, kept, broken, overlapping, IsVerdict}
+use Rattle.c_writer.specs.Layout.{layout}
+use Rattle.c_writer.specs.Parts.{parts_of}
 use Rattle.dt_tool.specs.Messages as said
+use Rattle.dt_tool.specs.Words.{file_named}
 
 -- the words are no command; the input of this name isn't held; a rule is broken, and this is said; this text is written
 pub data Due : Type 0 where
@@ -14,29 +19,38 @@ pub data Due : Type 0 where
   refused : List ℕ → Due
   written : List ℕ → Due
 
-abbrev pub due_of_verdict : List ℕ → List ℕ → Verdict → Due
-due_of_verdict file bytes kept = written (layout (file_patterns bytes))
-due_of_verdict file bytes too_large = refused (said.too_large file)
-due_of_verdict file bytes (broken fault) = refused (said.broken file fault)
-due_of_verdict file bytes (overlapping members) = refused (said.overlapping file members)
+-- the C text of files
+abbrev pub text_of : List (List ℕ) → List ℕ
+text_of texts = layout (parts_of default_options (definitions_of default_options texts))
 
--- what is due for a file of this name and these bytes
-pub record IsDueOf (file bytes : List ℕ) (what : Due) : Type 0 where
+abbrev pub due_of_verdict : List (List ℕ) → List (List ℕ) → Verdict → Due
+due_of_verdict names texts kept = written (text_of texts)
+due_of_verdict names texts (broken fault) = refused (said.broken names fault)
+due_of_verdict names texts (overlapping positions) = refused (said.overlapping names texts positions)
+
+-- what is due for files of these names and texts
+pub record IsDueOfFiles (names texts : List (List ℕ)) (what : Due) : Type 0 where
   pub verdict : Verdict
-  pub stands : IsVerdict bytes verdict
-  pub due : due_of_verdict file bytes verdict ≡ what
+  pub stands : IsVerdict (width_bits default_options.width) texts verdict
+  pub due : due_of_verdict names texts verdict ≡ what
+
+-- a file over its limit is refused before its text is looked at
+abbrev pub IsDueOf : List ℕ → List ℕ → Due → Type 0
+IsDueOf file bytes what =
+    ((LARGEST_FILE < length bytes) × (what ≡ refused (said.too_large file)))
+    ⊎ ((length bytes ≤ LARGEST_FILE) × IsDueOfFiles (file ∷ []) (bytes ∷ []) what)
 
 abbrev pub IsDueOfInput : List ℕ → Option (List ℕ) → Due → Type 0
 IsDueOfInput file None what = what ≡ missing file
 IsDueOfInput file (Some bytes) what = IsDueOf file bytes what
 
-abbrev pub IsDueOfFile : Option (List ℕ) → Files → Due → Type 0
-IsDueOfFile None files what = what ≡ usage
-IsDueOfFile (Some file) files what = IsDueOfInput file (map.get files file) what
+abbrev pub IsDueOfWords : Option (List ℕ) → Files → Due → Type 0
+IsDueOfWords None files what = what ≡ usage
+IsDueOfWords (Some file) files what = IsDueOfInput file (map.get files file) what
 
 -- exactly one is due (the law `law_one_due`)
 abbrev pub IsDue : List (List ℕ) → Files → Due → Type 0
-IsDue words files what = IsDueOfFile (file_named words) files what
+IsDue words files what = IsDueOfWords (file_named words) files what
 
 -- the bytes of the file that the words name
 abbrev pub input : List (List ℕ) → Files → Option (List ℕ)

@@ -1,12 +1,13 @@
--- The texts for standard error, in pieces (docs/COMMANDS.md).
-use Rattle.std.specs.Prelude.{ℕ, List, [], ◌∷◌, ◌++◌, codes, decimal, flat_map}
-use Rattle.c_subset.specs.Pieces.{Piece, text, name, pieces_text}
-use Rattle.c_subset.specs.Programs.{hex}
+-- The texts for standard error (docs/COMMANDS.md, "Rules").
+use Rattle.std.specs.Prelude.{ℕ, List, [], ◌∷◌, ◌++◌, codes, decimal, flat_map, get_or}
+use Rattle.dt_text.specs.Hexadecimal.{hex}
+use Rattle.dt_text.specs.Pieces.{text, name, pieces_text}
+use Rattle.dt_lines.specs.declared.line.Position.{Position}
+use Rattle.dt_fields.specs.RuleTexts.{rule_text}
+use Rattle.dt_fields.specs.declared.rule.Rule.{Rule}
 use Rattle.dt_fields.specs.declared.rule.Rule.TheVariants as rule
-use Rattle.dt_forms.specs.Patterns.{Pattern}
+use Rattle.dt_forms.specs.Positions.{first_token_at}
 use Rattle.dt_forms.specs.Rules.{Detail, nothing, token, named, number, mask, Fault}
-use Rattle.dt_tool.specs.RuleTexts.{rule_text}
-use Rattle.dt_tool.specs.Verdicts.{fault_at}
 
 abbrev pub usage : List ℕ
 usage = codes "usage: N1\n"
@@ -19,7 +20,7 @@ no_memory = codes "error: no memory\n"
 
 -- a line about a whole file
 abbrev pub about_file : List ℕ → List ℕ → List ℕ
-about_file front file = pieces_text (text front ∷ text file ∷ text (codes "\n") ∷ [])
+about_file prefix file = pieces_text (text prefix ∷ text file ∷ text (codes "\n") ∷ [])
 
 abbrev pub cannot_read : List ℕ → List ℕ
 cannot_read file = about_file (codes "error: cannot read ") file
@@ -27,30 +28,53 @@ cannot_read file = about_file (codes "error: cannot read ") file
 abbrev pub too_large : List ℕ → List ℕ
 too_large file = about_file (codes "error: K0 file too large: ") file
 
--- what stands behind a rule: nothing, the bytes of a token or a name, a number in decimal, or the bits of a mask in eight hexadecimal digits
-abbrev pub detail_pieces : Detail → List Piece
-detail_pieces nothing = []
-detail_pieces (token bytes) = text (codes ": ") ∷ text bytes ∷ []
-detail_pieces (named bytes) = text (codes ": ") ∷ text bytes ∷ []
-detail_pieces (number n) = text (codes ": ") ∷ name (decimal n) ∷ []
-detail_pieces (mask m) = text (codes ": 0x") ∷ name (hex 8 m) ∷ []
+-- the bytes of a token or a name, a number in decimal, the bits of a mask in eight hexadecimal digits
+abbrev pub bytes_text : List ℕ → List ℕ
+bytes_text bytes = pieces_text (text (codes ": ") ∷ text bytes ∷ [])
+
+abbrev pub number_text : ℕ → List ℕ
+number_text n = pieces_text (text (codes ": ") ∷ name (decimal n) ∷ [])
+
+abbrev pub mask_text : ℕ → List ℕ
+mask_text m = pieces_text (text (codes ": 0x") ∷ name (hex 8 m) ∷ [])
+
+-- what stands behind a rule
+abbrev pub detail_text : Detail → List ℕ
+detail_text nothing = []
+detail_text (token bytes) = bytes_text bytes
+detail_text (named bytes) = bytes_text bytes
+detail_text (number n) = number_text n
+detail_text (mask m) = mask_text m
+
+-- the name of a file by its place among these
+abbrev pub name_at : List (List ℕ) → ℕ → List ℕ
+name_at names file = get_or names file []
 
 -- where a rule is broken, and which, with its text
-abbrev pub place_pieces : List ℕ → List ℕ → Fault → List Piece
-place_pieces kind file fault = text file ∷ text (codes ":") ∷ name (decimal fault.line) ∷ text (codes ": ") ∷ text kind ∷ text (codes ": ") ∷ text (rule_text fault.broken.0) ∷ []
+abbrev pub place_text : List ℕ → List (List ℕ) → Position → Rule → List ℕ
+place_text kind names position broken =
+    pieces_text (text (name_at names position.file) ∷ text (codes ":") ∷ name (decimal position.line) ∷ text (codes ": ")
+    ∷ text kind ∷ text (codes ": ") ∷ text (rule_text broken) ∷ [])
 
--- a line about a broken rule
-abbrev pub fault_pieces : List ℕ → List ℕ → Fault → List Piece
-fault_pieces kind file fault = place_pieces kind file fault ++ (detail_pieces fault.broken.1 ++ text (codes "\n") ∷ [])
+abbrev pub line_end : List ℕ
+line_end = pieces_text (text (codes "\n") ∷ [])
 
-abbrev pub broken : List ℕ → Fault → List ℕ
-broken file fault = pieces_text (fault_pieces (codes "error") file fault)
+-- a line about a broken rule of files with these names
+abbrev pub fault_text : List ℕ → List (List ℕ) → Fault → List ℕ
+fault_text kind names fault =
+    place_text kind names (record { file = fault.file; line = fault.line }) fault.broken.0
+    ++ (detail_text fault.broken.1 ++ line_end)
 
--- a line about a pattern that overlaps others
-abbrev pub overlap_pieces : List ℕ → List ℕ → Pattern → List Piece
-overlap_pieces kind file p = fault_pieces kind file (fault_at p.line rule.H2 (named p.name))
+abbrev pub broken : List (List ℕ) → Fault → List ℕ
+broken names fault = fault_text (codes "error") names fault
+
+-- a line about an overlap at a position: it names the first token of the line there
+abbrev pub overlap_text : List ℕ → List (List ℕ) → List (List ℕ) → Position → List ℕ
+overlap_text kind names texts position =
+    place_text kind names position rule.H2 ++ (bytes_text (first_token_at texts position) ++ line_end)
 
 -- the first of them, and a note for each other
-abbrev pub overlapping : List ℕ → List Pattern → List ℕ
-overlapping file [] = []
-overlapping file (p ∷ ps) = pieces_text (overlap_pieces (codes "error") file p ++ flat_map (overlap_pieces (codes "note") file) ps)
+abbrev pub overlapping : List (List ℕ) → List (List ℕ) → List Position → List ℕ
+overlapping names texts [] = []
+overlapping names texts (p ∷ ps) =
+    overlap_text (codes "error") names texts p ++ flat_map (overlap_text (codes "note") names texts) ps

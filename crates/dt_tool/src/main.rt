@@ -4,12 +4,9 @@
 pub mod generate;
 pub mod laws;
 pub mod messages;
-pub mod parts;
-pub mod rule_texts;
 pub mod status;
 #[cfg(test)]
 mod tests;
-pub mod text;
 pub mod tool;
 pub mod words;
 

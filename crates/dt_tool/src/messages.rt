@@ -1,18 +1,16 @@
 //! The texts for standard error, made before they are written. They are bytes, as a refused token may be any.
 
-ghost use Rattle.std.specs.Prelude.{◌≡◌, ◌<◌, ◌++◌, ℕ, List, length, map, flat_map, codes, All, AllPairs, IfOk, OnOk};
-ghost use Rattle.c_subset.specs.Pieces.{pieces_text};
-ghost use Rattle.dt_forms.specs.Sound.{IsBefore};
-ghost use Rattle.dt_forms.specs.View.{IsDetailWithin, detail_seen, fault_seen, pattern_seen};
-ghost use Rattle.dt_tree.specs.Knots.{pattern_at};
-ghost use Rattle.dt_tree.specs.Refusals.{file_and_line};
+ghost use Rattle.std.specs.Prelude.{◌≡◌, codes, flat_map, IfOk};
+ghost use Rattle.dt_text.specs.Puts.{Puts};
+ghost use Rattle.dt_forms.specs.Sources.{AreSources};
+ghost use Rattle.dt_forms.specs.View.{IsDetailWithin, detail_seen, fault_seen, text_of_file, texts_of};
 ghost use Rattle.dt_tool.specs.Messages as said;
+ghost use Rattle.dt_tool.specs.Words.{names_seen};
 
-use crate::parts::{Part, write_parts};
-use crate::rule_texts::rule_text;
 use dt_fields::{Detail, Rule};
-use dt_forms::{Fault, Pattern};
-use dt_tree::lookup::find_pattern;
+use dt_forms::{Fault, Source, first_token};
+use dt_lines::Position;
+use dt_text::{GrowingSink, Out, Part, write_parts};
 use std::alloc::{AllocError, Global};
 
 /// What is said where the words aren't understood.
@@ -21,8 +19,15 @@ pub const USAGE: &[u8] = b"usage: N1\n";
 /// What is said where `out` refuses a write.
 pub const CANNOT_WRITE: &[u8] = b"error: cannot write\n";
 
-/// What is said where memory is wanting.
+/// What is said where memory runs out.
 pub const NO_MEMORY: &[u8] = b"error: no memory\n";
+
+/// The files that a message speaks of: their names, and those of them that were read, each at the same place.
+#[derive(Clone, Copy)]
+pub struct Inputs<'a> {
+    pub names: &'a [&'a str],
+    pub sources: &'a [Source],
+}
 
 /// What is said where a file isn't read.
 pub fn cannot_read(alloc: Global, file: &str) -> Result<Vec<u8>, AllocError>
@@ -39,148 +44,188 @@ pub fn too_large(alloc: Global, file: &str) -> Result<Vec<u8>, AllocError>
 }
 
 // A line about a whole file.
-fn about_file<'a>(alloc: Global, front: &'a [u8], file: &'a str) -> Result<Vec<u8>, AllocError>
-    ensures { IfOk result (λ text. text.items ≡ said.about_file front.now file.now) }
+fn about_file<'a>(alloc: Global, prefix: &'a [u8], file: &'a str) -> Result<Vec<u8>, AllocError>
+    ensures { IfOk result (λ text. text.items ≡ said.about_file prefix.now file.now) }
 {
-    let mut text = Vec::new(alloc);
+    let mut out = GrowingSink::new(alloc);
     write_parts(
-        &mut text,
+        &mut out,
         &[
-            Part::Text(front),
+            Part::Text(prefix),
             Part::Text(file.as_bytes()),
             Part::Text(b"\n"),
         ],
-    )?;
-    Ok(text)
+    );
+    out.into_text()
 }
 
-/// What is said of a rule that a line breaks. A token in its detail is a place in `bytes`, those of the file.
-pub fn broken(alloc: Global, file: &str, bytes: &[u8], fault: &Fault) -> Result<Vec<u8>, AllocError>
-    requires { IsDetailWithin bytes.now fault.now.detail }
-    ensures { IfOk result (λ text. text.items ≡ said.broken file.now (fault_seen bytes.now fault.now)) }
+/// What is said of a broken rule. A token in its detail is a place in the bytes of its file.
+pub fn broken(alloc: Global, inputs: Inputs, fault: &Fault) -> Result<Vec<u8>, AllocError>
+    requires { IsDetailWithin (text_of_file inputs.sources.now fault.now.file) fault.now.detail }
+    ensures { IfOk result (λ text. text.items ≡ said.broken (names_seen inputs.entry.names.now)
+        (fault_seen (text_of_file inputs.entry.sources.now fault.now.file) fault.now)) }
 {
-    let mut text = Vec::new(alloc);
-    write_fault(&mut text, b"error", file, bytes, fault)?;
-    Ok(text)
+    let mut out = GrowingSink::new(alloc);
+    write_fault(&mut out, b"error", inputs, fault);
+    out.into_text()
 }
 
-/// What is said of the patterns at these files and lines, which overlap: of the first, and a note for each other.
-/// The patterns rise by their files and lines.
+/// What is said of overlaps at these positions: of the first, and a note for each other.
 pub fn overlapping(
     alloc: Global,
-    file: &str,
-    patterns: &[Pattern],
-    places: &[(u16, u32)],
+    inputs: Inputs,
+    positions: &[Position],
 ) -> Result<Vec<u8>, AllocError>
-    requires rising { AllPairs IsBefore patterns.now }
-    ensures { (members : List ℕ) → All (λ i. i < length patterns.now) members
-        → places.now ≡ map (file_and_line (map pattern_seen patterns.now)) members
-        → IfOk result (λ text. text.items ≡ said.overlapping file.now (map (pattern_at (map pattern_seen patterns.now)) members)) }
+    requires { AreSources inputs.sources.now }
+    ensures { IfOk result (λ text. text.items
+        ≡ said.overlapping (names_seen inputs.entry.names.now) (texts_of inputs.entry.sources.now) positions.now) }
 {
-    let mut text = Vec::new(alloc);
-    let Some((first, others)) = places.split_first() else {
-        return Ok(text);
+    let mut out = GrowingSink::new(alloc);
+    write_overlaps(&mut out, inputs, positions);
+    out.into_text()
+}
+
+#[tactic(auto, using(dt_text::proofs::Putting::puts_nothing))]
+fn write_overlaps<W: Out>(out: &mut W, inputs: Inputs, positions: &[Position])
+    requires { AreSources inputs.sources.now }
+    ensures { Puts (W.state out.old) (W.state out.new)
+        (said.overlapping (names_seen inputs.entry.names.now) (texts_of inputs.entry.sources.now) positions.now) }
+{
+    let Some((first, others)) = positions.split_first() else {
+        return;
     };
-    write_overlap(&mut text, b"error", file, patterns, *first)?;
-    write_notes(&mut text, file, patterns, others)?;
-    Ok(text)
+    write_overlap(out, b"error", inputs, *first);
+    write_notes(out, inputs, others);
 }
 
-// A note for the pattern at each file and line.
-fn write_notes(
-    text: &mut Vec<u8>,
-    file: &str,
-    patterns: &[Pattern],
-    places: &[(u16, u32)],
-) -> Result<(), AllocError>
-    requires rising { AllPairs IsBefore patterns.now }
-    ensures { (members : List ℕ) → All (λ i. i < length patterns.now) members
-        → places.now ≡ map (file_and_line (map pattern_seen patterns.now)) members
-        → OnOk result (text.new.items ≡ text.old.items ++ pieces_text (flat_map (λ i. said.overlap_pieces (codes "note") file.now (pattern_at (map pattern_seen patterns.now) i)) members)) }
+// A note for each position.
+#[tactic(auto, using(dt_text::proofs::Putting::puts_nothing))]
+fn write_notes<W: Out>(out: &mut W, inputs: Inputs, positions: &[Position])
+    requires { AreSources inputs.sources.now }
+    ensures { Puts (W.state out.old) (W.state out.new) (flat_map
+        (said.overlap_text (codes "note") (names_seen inputs.entry.names.now) (texts_of inputs.entry.sources.now)) positions.now) }
 {
-    for place in places {
-        write_overlap(text, b"note", file, patterns, *place)?;
+    for position in positions {
+        write_overlap(out, b"note", inputs, *position);
     }
-    Ok(())
 }
 
-// A line about the pattern at a file and line, which overlaps others.
-fn write_overlap(
-    text: &mut Vec<u8>,
-    kind: &[u8],
-    file: &str,
-    patterns: &[Pattern],
-    place: (u16, u32),
-) -> Result<(), AllocError>
-    requires rising { AllPairs IsBefore patterns.now }
-    ensures { (member : ℕ) → member < length patterns.now → place ≡ file_and_line (map pattern_seen patterns.now) member
-        → OnOk result (text.new.items ≡ text.old.items ++ pieces_text (said.overlap_pieces kind.now file.now (pattern_at (map pattern_seen patterns.now) member))) }
+// A line about an overlap at a position.
+fn write_overlap<W: Out>(out: &mut W, kind: &[u8], inputs: Inputs, position: Position)
+    requires { AreSources inputs.sources.now }
+    ensures { Puts (W.state out.old) (W.state out.new)
+        (said.overlap_text kind.now (names_seen inputs.entry.names.now) (texts_of inputs.entry.sources.now) position) }
 {
-    match find_pattern(patterns, place.0, place.1) {
-        None => Ok(()),
-        Some(pattern) => {
-            let fault = Fault {
-                file: pattern.file,
-                line: pattern.line,
-                rule: Rule::H2,
-                detail: Detail::Named(pattern.name),
-            };
-            write_fault(text, kind, file, &[], &fault)
-        }
-    }
+    let token = first_token(inputs.sources, position);
+    write_place(out, kind, inputs, position, Rule::H2);
+    write_bytes(out, token);
+    write_line_end(out);
 }
 
 // A line about a broken rule.
-fn write_fault(
-    text: &mut Vec<u8>,
-    kind: &[u8],
-    file: &str,
-    bytes: &[u8],
-    fault: &Fault,
-) -> Result<(), AllocError>
-    requires { IsDetailWithin bytes.now fault.now.detail }
-    ensures { OnOk result (text.new.items ≡ text.old.items ++ pieces_text (said.fault_pieces kind.now file.now (fault_seen bytes.now fault.now))) }
+fn write_fault<W: Out>(out: &mut W, kind: &[u8], inputs: Inputs, fault: &Fault)
+    requires { IsDetailWithin (text_of_file inputs.sources.now fault.now.file) fault.now.detail }
+    ensures { Puts (W.state out.old) (W.state out.new) (said.fault_text kind.now (names_seen inputs.entry.names.now)
+        (fault_seen (text_of_file inputs.entry.sources.now fault.now.file) fault.now)) }
 {
-    write_place(text, kind, file, fault)?;
-    write_detail(text, bytes, &fault.detail)?;
-    write_parts(text, &[Part::Text(b"\n")])?;
-    Ok(())
+    let position = Position {
+        file: fault.file,
+        line: fault.line,
+    };
+    write_place(out, kind, inputs, position, fault.rule);
+    write_detail(out, bytes_at(inputs.sources, fault.file), &fault.detail);
+    write_line_end(out);
+}
+
+// The name of the file at a place, empty where there is none.
+fn name_at<'a>(names: &'a [&'a str], file: u16) -> &'a str
+    ensures { result.now ≡ said.name_at (names_seen names.now) file }
+{
+    match names.get(file as usize) {
+        Some(name) => name,
+        None => "",
+    }
+}
+
+// The bytes of the file at a place, none where it wasn't read.
+fn bytes_at(sources: &[Source], file: u16) -> &[u8]
+    ensures { result.now ≡ text_of_file sources.now file }
+{
+    match sources.get(file as usize) {
+        Some(source) => source.bytes.items(),
+        None => &[],
+    }
 }
 
 // Where a rule is broken, and which, with its text.
-fn write_place<'a>(
-    text: &mut Vec<u8>,
+fn write_place<'a, W: Out>(
+    out: &mut W,
     kind: &'a [u8],
-    file: &'a str,
-    fault: &Fault,
-) -> Result<(), AllocError>
-    ensures { (bytes : List ℕ) → OnOk result (text.new.items ≡ text.old.items ++ pieces_text (said.place_pieces kind.now file.now (fault_seen bytes fault.now))) }
+    inputs: Inputs<'a>,
+    position: Position,
+    rule: Rule,
+)
+    ensures { Puts (W.state out.old) (W.state out.new) (said.place_text kind.now (names_seen inputs.entry.names.now) position rule) }
 {
     write_parts(
-        text,
+        out,
         &[
-            Part::Text(file.as_bytes()),
+            Part::Text(name_at(inputs.names, position.file).as_bytes()),
             Part::Text(b":"),
-            Part::Decimal(fault.line as u64),
+            Part::Decimal(position.line as u64),
             Part::Text(b": "),
             Part::Text(kind),
             Part::Text(b": "),
-            Part::Text(rule_text(fault.rule).as_bytes()),
+            Part::Text(rule.text().as_bytes()),
         ],
-    )?;
-    Ok(())
+    );
+}
+
+fn write_line_end<W: Out>(out: &mut W)
+    ensures { Puts (W.state out.old) (W.state out.new) said.line_end }
+{
+    write_parts(out, &[Part::Text(b"\n")]);
 }
 
 // What stands behind a rule.
-fn write_detail(text: &mut Vec<u8>, bytes: &[u8], detail: &Detail) -> Result<(), AllocError>
+#[tactic(auto, using(dt_text::proofs::Putting::puts_nothing))]
+fn write_detail<W: Out>(out: &mut W, bytes: &[u8], detail: &Detail)
     requires { IsDetailWithin bytes.now detail.now }
-    ensures { OnOk result (text.new.items ≡ text.old.items ++ pieces_text (said.detail_pieces (detail_seen bytes.now detail.now))) }
+    ensures { Puts (W.state out.old) (W.state out.new) (said.detail_text (detail_seen bytes.now detail.now)) }
 {
     match *detail {
-        Detail::None => Ok(()),
-        Detail::Text(span) => write_parts(text, &[Part::Text(b": "), Part::Text(span.text(bytes))]),
-        Detail::Named(name) => write_parts(text, &[Part::Text(b": "), Part::Text(name.bytes())]),
-        Detail::Number(number) => write_parts(text, &[Part::Text(b": "), Part::Decimal(number)]),
-        Detail::Mask(mask) => write_parts(text, &[Part::Text(b": 0x"), Part::Hex(mask)]),
+        Detail::None => {}
+        Detail::Text(span) => write_bytes(out, span.text(bytes)),
+        Detail::Named(name) => write_bytes(out, name.bytes()),
+        Detail::Number(number) => write_number(out, number),
+        Detail::Mask(mask) => write_mask(out, mask),
     }
+}
+
+fn write_bytes<W: Out>(out: &mut W, bytes: &[u8])
+    ensures { Puts (W.state out.old) (W.state out.new) (said.bytes_text bytes.now) }
+{
+    write_parts(out, &[Part::Text(b": "), Part::Text(bytes)]);
+}
+
+fn write_number<W: Out>(out: &mut W, number: u64)
+    ensures { Puts (W.state out.old) (W.state out.new) (said.number_text number) }
+{
+    write_parts(out, &[Part::Text(b": "), Part::Decimal(number)]);
+}
+
+// A mask has eight digits while words have 32 bits.
+fn write_mask<W: Out>(out: &mut W, mask: u64)
+    ensures { Puts (W.state out.old) (W.state out.new) (said.mask_text mask) }
+{
+    write_parts(
+        out,
+        &[
+            Part::Text(b": 0x"),
+            Part::Hex {
+                digits: 8,
+                value: mask,
+            },
+        ],
+    );
 }

@@ -2,10 +2,10 @@
 use Rattle.std.proofs.Common.{ℕ, ◌≡◌, List, ◌++◌, sym, ◌∙◌, inl, inr}
 use Rattle.std.specs.Prelude.{Contains}
 use Rattle.std.proofs.lemmas.List.Elements.{Contains-append_left, Contains-append_right, Contains-append_cases}
-use Rattle.dt_forms.specs.Patterns.{Pattern}
+use Rattle.dt_forms.specs.Patterns.{FlatPattern}
 use Rattle.dt_tree.specs.Knots.{Fixes, value_at, IsKnot}
 
-pub knots_join : (ps : List Pattern) (ks ls : List ℕ) (i : ℕ) → IsKnot ps ks → IsKnot ps ls → Contains ks i → Contains ls i → IsKnot ps (ks ++ ls)
+pub knots_join : (ps : List FlatPattern) (ks ls : List ℕ) (i : ℕ) → IsKnot ps ks → IsKnot ps ls → Contains ks i → Contains ls i → IsKnot ps (ks ++ ls)
 knots_join ps ks ls i k l in_k in_l = record {
   inside = λ j h. elim (Contains-append_cases ks ls j h) [ inl a ↦ k.inside j a | inr a ↦ l.inside j a ];
   several = (k.several.0, k.several.1, Contains-append_left ks ls _ k.several.2, Contains-append_left ks ls _ k.several.3, k.several.4);

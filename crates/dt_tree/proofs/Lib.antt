@@ -1,10 +1,10 @@
 pub mod Members
-pub mod Seen
+pub mod ModelPatterns
 pub mod Matching
 pub mod Joins
 pub mod Halves
 pub mod Scan
-pub mod Whole
-pub mod Firsts
-pub mod Total
-pub mod Named
+pub mod WholeWords
+pub mod OneFirstKnot
+pub mod SomeFirstKnot
+pub mod OneVerdict

@@ -4,21 +4,21 @@ use Rattle.std.specs.Prelude.{Contains, bit_and, min}
 use Rattle.std.specs.Int.{bit_at}
 use Rattle.std.proofs.lemmas.Bool.{cases_eq, eqb-true}
 use Rattle.std.proofs.lemmas.Nat.Bits.{bit_at_and, bit_at-lt}
-use Rattle.dt_forms.specs.Patterns.{Pattern, Matches}
+use Rattle.dt_forms.specs.Patterns.{FlatPattern, Matches}
 use Rattle.dt_tree.specs.Knots.{pattern_at, Fixes, value_at, IsKnot, IsParted}
 use Rattle.dt_tree.proofs.Members.{contains_head, contains_tail, contains_cases, contains_none}
 
 -- a bit that a matching pattern fixes has the word's value
-value_of_word : (ps : List Pattern) (word i b : ℕ) → Matches (pattern_at ps i) word → Fixes ps i b → value_at ps i b ≡ bit_at word b
+value_of_word : (ps : List FlatPattern) (word i b : ℕ) → Matches (pattern_at ps i) word → Fixes ps i b → value_at ps i b ≡ bit_at word b
 value_of_word ps word i b m f =
-    let fixed : bit_at (pattern_at ps i).mask b ≡ 1 = f in
-    let both : bit_at (bit_and word (pattern_at ps i).mask) b ≡ min (bit_at word b) (bit_at (pattern_at ps i).mask b) = bit_at_and word (pattern_at ps i).mask b in
-    let at : bit_at (bit_and word (pattern_at ps i).mask) b ≡ bit_at (pattern_at ps i).bits b =
-    ap (λ (x : ℕ). bit_at x b) (eqb-true (bit_and word (pattern_at ps i).mask) (pattern_at ps i).bits m) in
+    let fixed : bit_at (pattern_at ps i).fixed_mask b ≡ 1 = f in
+    let both : bit_at (bit_and word (pattern_at ps i).fixed_mask) b ≡ min (bit_at word b) (bit_at (pattern_at ps i).fixed_mask b) = bit_at_and word (pattern_at ps i).fixed_mask b in
+    let at : bit_at (bit_and word (pattern_at ps i).fixed_mask) b ≡ bit_at (pattern_at ps i).fixed_bits b =
+    ap (λ (x : ℕ). bit_at x b) (eqb-true (bit_and word (pattern_at ps i).fixed_mask) (pattern_at ps i).fixed_bits m) in
     let small : bit_at word b < 2 = bit_at-lt word b in
     omega arith
 
-two_match_is_knot : (ps : List Pattern) (word i j : ℕ) → i < length ps → j < length ps → (i ≢ j)
+two_match_is_knot : (ps : List FlatPattern) (word i j : ℕ) → i < length ps → j < length ps → (i ≢ j)
     → Matches (pattern_at ps i) word → Matches (pattern_at ps j) word → IsKnot ps (i ∷ j ∷ [])
 two_match_is_knot ps word i j li lj ne mi mj = record {
   inside = λ k h. pick (λ k. k < length ps) li lj k h;
@@ -34,7 +34,7 @@ two_match_is_knot ps word i j li lj ne mi mj = record {
       | inr t ↦ elim (contains_cases j k [] t) [ inl e ↦ subst P (sym e) pj | inr n ↦ absurd (contains_none k n) ]
     ]
 
-pub one_match : (ps : List Pattern) (word i j : ℕ) → IsParted ps → i < length ps → j < length ps
+pub one_match : (ps : List FlatPattern) (word i j : ℕ) → IsParted ps → i < length ps → j < length ps
     → Matches (pattern_at ps i) word → Matches (pattern_at ps j) word → i ≡ j
 one_match ps word i j parted li lj mi mj =
     elim (cases_eq i j) [ inl e ↦ e | inr ne ↦ absurd (parted.no_knot (i ∷ j ∷ []) (two_match_is_knot ps word i j li lj ne mi mj)) ]

@@ -1,4 +1,4 @@
 pub mod Knots
-pub mod Split
+pub mod FirstKnots
 pub mod Refusals
-pub mod Places
+pub mod Verdicts

@@ -3,11 +3,10 @@
 
 pub mod fault;
 pub mod laws;
-pub mod lookup;
 mod split;
 pub mod tree;
 
-pub use fault::{Places, TreeFault};
+pub use fault::{PositionList, TreeFault};
 pub use tree::Tree;
 
 #[cfg(test)]

@@ -4,21 +4,21 @@ ghost use Rattle.std.specs.Prelude.{◌≡◌, ◌<◌, ◌==◌, length, map, A
 ghost use Rattle.std.specs.List.Sorted.{IsStrictlyIncreasing};
 ghost use Rattle.dt_forms.specs.View.{pattern_seen};
 ghost use Rattle.dt_tree.specs.Knots.{pattern_at, value_at, Agree};
-ghost use Rattle.dt_tree.specs.Split.{IsSplitBy, IsAnswer, IsAnswerOfAll, places_of, earlier_of};
+ghost use Rattle.dt_tree.specs.FirstKnots.{IsSplitBy, IsAnswer, IsAnswerOfAll, places_of, earlier_of};
 
 use dt_forms::Pattern;
 use std::alloc::{AllocError, Global};
 
 fn mask_at(patterns: &[Pattern], place: usize) -> u64
     requires { place < length patterns.now }
-    ensures { result ≡ (pattern_at (map pattern_seen patterns.now) place).mask }
+    ensures { result ≡ (pattern_at (map pattern_seen patterns.now) place).fixed_mask }
 {
     patterns[place].fixed_mask
 }
 
 fn bits_at(patterns: &[Pattern], place: usize) -> u64
     requires { place < length patterns.now }
-    ensures { result ≡ (pattern_at (map pattern_seen patterns.now) place).bits }
+    ensures { result ≡ (pattern_at (map pattern_seen patterns.now) place).fixed_bits }
 {
     patterns[place].fixed_bits
 }

@@ -5,9 +5,11 @@ ghost use Rattle.dt_forms.specs.Trees.{items_of, items_from, numbers_from, entri
 ghost use Rattle.dt_forms.specs.Trees.Item.{one};
 ghost use Rattle.dt_tree.specs.Knots.{patterns_of};
 
-use crate::lookup::find_pattern;
-use crate::{Places, Tree, TreeFault};
-use dt_forms::{Entry, EntryList, FormatList, Model, Pattern, PatternList, SetList, Values};
+use crate::{PositionList, Tree, TreeFault};
+use dt_forms::{
+    Entry, EntryList, FormatList, MOST_PATTERNS, Model, Pattern, PatternList, SetList, ValueList,
+};
+use dt_lines::Position;
 use dt_values::{Name, Width};
 use std::alloc::{AllocError, Global};
 use std::test::Fail;
@@ -57,7 +59,7 @@ fn patterns_in(alloc: Global, rows: &[Row]) -> Result<PatternList, AllocError>
             fixed_bits: row.bits,
             fixed_mask: row.mask,
             ignored: 0,
-            values: Values::of(Vec::new(alloc)),
+            values: ValueList::of(Vec::new(alloc)),
         })?;
     }
     Ok(PatternList::of(patterns))
@@ -90,16 +92,30 @@ fn model_of(alloc: Global, rows: &[Row]) -> Result<Model, AllocError>
     })
 }
 
-/// The places that a refusal shows; None where the rows are parted.
-fn knot_in(alloc: Global, rows: &[Row]) -> Result<Option<Places>, AllocError>
+/// The positions that a refusal shows; None where the rows are parted.
+fn knot_in(alloc: Global, rows: &[Row]) -> Result<Option<PositionList>, AllocError>
     requires { length rows.now < 2 ^ 32 }
 {
     let model = model_of(alloc, rows)?;
     match Tree::build(alloc, &model) {
         Ok(_) => Ok(None),
-        Err(TreeFault::Knot(places)) => Ok(Some(places)),
+        Err(TreeFault::Knot(positions)) => Ok(Some(positions)),
         Err(TreeFault::NoMemory) => Err(AllocError),
     }
+}
+
+/// Whether these are the positions, each by its file and line.
+fn are_positions(positions: &PositionList, expected: &[(u16, u32)]) -> bool {
+    let mut found = positions
+        .items()
+        .iter()
+        .map(|position| (position.file, position.line));
+    for one in expected {
+        if found.next() != Some(*one) {
+            return false;
+        }
+    }
+    found.next().is_none()
 }
 
 #[test]
@@ -109,8 +125,8 @@ fn three_of_which_no_two_meet_are_a_knot(rt: HostRuntime) -> Result<(), Fail> {
         row_of(5, b"11--------------"),
         row_of(8, b"-00-------------"),
     ];
-    let places = knot_in(rt.alloc(), &rows)?.ok_or("a knot")?;
-    assert_eq!(rt; places.items(), [(0, 3), (0, 5), (0, 8)].as_slice());
+    let positions = knot_in(rt.alloc(), &rows)?.ok_or("a knot")?;
+    assert!(rt; are_positions(&positions, &[(0, 3), (0, 5), (0, 8)]));
     Ok(())
 }
 
@@ -132,8 +148,8 @@ fn equal_words_that_are_no_neighbours(rt: HostRuntime) -> Result<(), Fail> {
         row_of(5, b"0000000000000111"),
         row_of(9, b"0000000000000101"),
     ];
-    let places = knot_in(rt.alloc(), &rows)?.ok_or("a knot")?;
-    assert_eq!(rt; places.items(), [(0, 4), (0, 9)].as_slice());
+    let positions = knot_in(rt.alloc(), &rows)?.ok_or("a knot")?;
+    assert!(rt; are_positions(&positions, &[(0, 4), (0, 9)]));
     Ok(())
 }
 
@@ -152,8 +168,8 @@ fn the_knot_of_the_least_place(rt: HostRuntime) -> Result<(), Fail> {
             ..row_of(2, b"00--------------")
         },
     ];
-    let places = knot_in(rt.alloc(), &rows)?.ok_or("a knot")?;
-    assert_eq!(rt; places.items(), [(0, 2), (1, 1)].as_slice());
+    let positions = knot_in(rt.alloc(), &rows)?.ok_or("a knot")?;
+    assert!(rt; are_positions(&positions, &[(0, 2), (1, 1)]));
     Ok(())
 }
 
@@ -161,28 +177,17 @@ fn the_knot_of_the_least_place(rt: HostRuntime) -> Result<(), Fail> {
 fn a_pattern_that_fixes_nothing(rt: HostRuntime) -> Result<(), Fail> {
     let nothing = row_of(1, b"----------------");
     let something = row_of(2, b"0000000000000101");
-    let places = knot_in(rt.alloc(), &[nothing, something])?.ok_or("a knot")?;
-    assert_eq!(rt; places.items(), [(0, 1), (0, 2)].as_slice());
+    let positions = knot_in(rt.alloc(), &[nothing, something])?.ok_or("a knot")?;
+    assert!(rt; are_positions(&positions, &[(0, 1), (0, 2)]));
     assert!(rt; knot_in(rt.alloc(), &[nothing])?.is_none());
     assert!(rt; knot_in(rt.alloc(), &[])?.is_none());
     Ok(())
 }
 
 #[test]
-fn the_pattern_at_a_place(rt: HostRuntime) -> Result<(), Fail> {
-    let rows = [row_of(4, b"11--------------")];
-    let patterns = patterns_in(rt.alloc(), &rows)?;
-    let pattern = find_pattern(patterns.items(), 0, 4).ok_or("a pattern")?;
-    assert_eq!(rt; pattern.fixed_mask, rows[0].mask);
-    assert!(rt; find_pattern(patterns.items(), 0, 3).is_none());
-    assert!(rt; find_pattern(patterns.items(), 1, 4).is_none());
-    Ok(())
-}
-
-#[test]
 fn many_words(rt: HostRuntime) -> Result<(), Fail> {
     let mut rows = Vec::new(rt.alloc());
-    for word in 0..8192u64 {
+    for word in 0..MOST_PATTERNS as u64 {
         rows.push(Row {
             file: 0,
             line: 1,
@@ -190,7 +195,7 @@ fn many_words(rt: HostRuntime) -> Result<(), Fail> {
             bits: word,
         })?;
     }
-    assert!(rt; rows.len() == 8192);
+    assert!(rt; rows.len() == MOST_PATTERNS);
     assert!(rt; knot_in(rt.alloc(), rows.as_slice())?.is_none());
     Ok(())
 }

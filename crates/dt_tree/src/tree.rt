@@ -4,11 +4,12 @@ ghost use Rattle.std.specs.Prelude.{◌≡◌, ◌<◌, length, map, All, IfOk, 
 ghost use Rattle.dt_forms.specs.View.{pattern_seen};
 ghost use Rattle.dt_forms.specs.Trees.{items_of, entries_of};
 ghost use Rattle.dt_tree.specs.Knots.{patterns_of, IsFirstKnot, IsParted};
-ghost use Rattle.dt_tree.specs.Refusals.{file_and_line, IsRefused};
+ghost use Rattle.dt_tree.specs.Refusals.{position_at, IsRefused};
 
-use crate::fault::{Places, TreeFault};
+use crate::fault::{PositionList, TreeFault};
 use crate::split::knot_of;
 use dt_forms::{Model, Pattern};
+use dt_lines::Position;
 use std::alloc::{AllocError, Global};
 
 /// The tree of a model. It keeps nothing yet: that there is one says that the patterns are parted.
@@ -17,21 +18,25 @@ pub struct Tree {
     nodes: (),
 }
 
-fn files_and_lines(
+// Where the patterns at these places stand in the files.
+fn positions_of(
     alloc: Global,
     patterns: &[Pattern],
     members: &[usize],
-) -> Result<Places, AllocError>
+) -> Result<PositionList, AllocError>
     requires { All (λ i. i < length patterns.now) members.now }
-    ensures { IfOk result (λ shown.
-        shown ≡ map (file_and_line (map pattern_seen patterns.now)) members.now) }
+    ensures { IfOk result (λ positions.
+        positions ≡ map (position_at (map pattern_seen patterns.now)) members.now) }
 {
-    let mut shown = Vec::new(alloc);
+    let mut positions = Vec::new(alloc);
     for member in members {
         let pattern = &patterns[*member];
-        shown.push((pattern.file, pattern.line))?;
+        positions.push(Position {
+            file: pattern.file,
+            line: pattern.line,
+        })?;
     }
-    Ok(Places::of(shown))
+    Ok(PositionList::of(positions))
 }
 
 /// The refusal that shows the first knot.
@@ -39,8 +44,8 @@ fn refusal(alloc: Global, patterns: &[Pattern], members: &[usize]) -> TreeFault
     requires { IsFirstKnot (map pattern_seen patterns.now) members.now }
     ensures { IsRefused (map pattern_seen patterns.now) result }
 {
-    match files_and_lines(alloc, patterns, members) {
-        Ok(shown) => TreeFault::Knot(shown),
+    match positions_of(alloc, patterns, members) {
+        Ok(positions) => TreeFault::Knot(positions),
         Err(_) => TreeFault::NoMemory,
     }
 }

@@ -1,6 +1,7 @@
 use Rattle.std.proofs.Common.{refl}
 use Rattle.c_subset.specs.Tokens.{read}
-use Rattle.c_subset.specs.Programs.{hex, spelling}
+use Rattle.dt_text.specs.Hexadecimal.{hex}
+use Rattle.c_subset.specs.Programs.{spelling}
 use Rattle.c_subset.proofs.ExampleRules.{empty_keeps, nop_keeps}
 use Rattle.c_subset.proofs.laws.examples.Goals as goal
 

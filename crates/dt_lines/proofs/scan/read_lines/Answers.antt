@@ -1,14 +1,13 @@
-use Rattle.std.proofs.Common.{◌+◌, map, arith}
+use Rattle.std.proofs.Common.{◌+◌, arith}
 use Rattle.std.proofs.lemmas.Bool.Decides.{nat_tests}
-use Rattle.dt_lines.specs.Spans.{line_seen}
-use Rattle.dt_lines.specs.Gathering.{gathered_line}
+use Rattle.dt_lines.specs.Gathering.{reading}
 use Rattle.dt_lines.proofs.Continuing.{line_more, lines_last, line_last}
 use Rattle.dt_lines.proofs.SoFar.{spans_later}
 use Rattle.dt_lines.proofs.scan.read_lines.Goals as goal
 
 pub loop-at-preserved : goal.loop-at-preserved
 loop-at-preserved c = record {
-  lines = line_more c.args.bytes.now c.loop-at.at c.line_end-end.result (c.loop-at.line + 1) (map (line_seen c.args.bytes.now) c.loop-at.lines.items) _ _ (gathered_line c.args.bytes.now c.loop-at.gathered) (gathered_line c.args.bytes.now c.in_ok-gathered.gathered) c.line_end-end.ensures.after c.line_end-end.ensures.within c.loop-at-test.true c.line_end-end.ensures.none c.line_end-end.ensures.end c.in_ok-gathered.ensures.lines c.loop-at.invariant.lines;
+  lines = line_more c.args.bytes.now c.loop-at.at c.line_end-end.result (c.loop-at.line + 1) (reading c.args.bytes.now c.loop-at.lines.items c.loop-at.gathered) (reading c.args.bytes.now _ c.in_ok-gathered.gathered) _ c.loop-at-test.true c.line_end-end.ensures c.in_ok-gathered.ensures.lines c.loop-at.invariant.lines;
   file = c.in_ok-gathered.ensures.file;
   spans = spans_later _ (omega arith) c.in_ok-gathered.ensures.spans;
   number = omega arith;

@@ -1,13 +1,13 @@
-use Rattle.std.proofs.Common.{◌≡◌, ◌+◌, ◌-◌, ◌≤◌, ◌++◌, length, map, drop}
-use Rattle.dt_lines.specs.Lines.{logical_lines, physical_lines}
-use Rattle.dt_lines.specs.Spans.{line_seen}
+use Rattle.std.proofs.Common.{◌≡◌, ◌+◌, ◌-◌, ◌≤◌, length}
+use Rattle.dt_lines.specs.Lines.{placed_lines}
 use Rattle.dt_lines.specs.SoFar.{AreSpansTo, AreLinesOf}
-use Rattle.dt_lines.specs.Gathering.{gathered_line, lines_after}
+use Rattle.dt_lines.specs.Gathering.{all_lines, reading}
+use Rattle.dt_lines.proofs.Pieces.{lines_left}
 use Rattle.dt_lines.proofs.scan.read_lines.Given as goal
 
 abbrev pub invariant-loop-at : goal.invariant-loop-at
 invariant-loop-at l = record {
-  lines : map (line_seen l.bytes) l.lines.items ++ lines_after (gathered_line l.bytes l.gathered) (l.line + 1) (physical_lines (drop l.at l.bytes)) ≡ logical_lines l.bytes;
+  lines : all_lines (reading l.bytes l.lines.items l.gathered) (l.line + 1) (lines_left l.at l.bytes) ≡ placed_lines l.bytes;
   file : AreLinesOf l.file (length l.bytes) l.lines.items;
   spans : AreSpansTo (length l.bytes) l.at l.gathered.tokens.items;
   number : l.line ≤ l.at;

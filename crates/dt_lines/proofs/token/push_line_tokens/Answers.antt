@@ -1,7 +1,7 @@
 use Rattle.std.proofs.Common.{◌≡◌, ◌∙◌, ◌+◌, ◌++◌, ap, map, false, true, get_or, arith}
 use Rattle.std.specs.List.{between}
-use Rattle.dt_lines.specs.Lines.{is_white, before_comment, tokens}
-use Rattle.dt_lines.specs.Spans.{text_at}
+use Rattle.dt_lines.specs.Lines.{is_white, before_comment, tokens_from}
+use Rattle.dt_lines.specs.Gathering.{piece_at}
 use Rattle.dt_lines.proofs.Pieces.{none_more, none_yet, tokens_more, tokens_end, before_comment_at}
 use Rattle.dt_lines.proofs.SoFar.{spans_later}
 use Rattle.dt_lines.proofs.token.push_line_tokens.Goals as goal
@@ -32,4 +32,4 @@ pub returns-clause-tokens : goal.returns-clause-tokens
 returns-clause-tokens c =
     let whole : between c.args.from (c.args.from + c.comment_start.result) c.args.bytes.now ≡ before_comment (between c.args.from c.args.to c.args.bytes.now) = before_comment_at c.args.bytes.now c.args.from c.args.to c.comment_start.result c.requires.ordered c.requires.within c.comment_start.ensures.within c.comment_start.ensures.place in
     tokens_end c.args.bytes.now c.loop-at.start c.loop-at.at _ _ _ _ (omega arith) (omega arith) c.loop-at.invariant.word c.loop-at.invariant.tokens c.in_ok-push_span-2.ensures.tokens
-    ∙ ap (λ text. map (text_at c.args.bytes.now) c.args.spans.now.items ++ tokens text) whole
+    ∙ ap (λ text. map (piece_at c.args.bytes.now) c.args.spans.now.items ++ tokens_from c.args.from text) whole

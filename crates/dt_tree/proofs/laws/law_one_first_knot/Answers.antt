@@ -1,4 +1,4 @@
-use Rattle.dt_tree.proofs.Firsts.{one_first}
+use Rattle.dt_tree.proofs.OneFirstKnot.{one_first}
 use Rattle.dt_tree.proofs.laws.law_one_first_knot.Goals as goal
 
 pub returns-clause-one : goal.returns-clause-one

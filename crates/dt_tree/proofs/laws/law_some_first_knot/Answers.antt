@@ -1,4 +1,4 @@
-use Rattle.dt_tree.proofs.Total.{some_first_knot}
+use Rattle.dt_tree.proofs.SomeFirstKnot.{some_first_knot}
 use Rattle.dt_tree.proofs.laws.law_some_first_knot.Goals as goal
 
 pub returns : goal.returns

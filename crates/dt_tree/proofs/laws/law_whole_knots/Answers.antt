@@ -1,4 +1,4 @@
-use Rattle.dt_tree.proofs.Whole.{to_one_word, from_one_word}
+use Rattle.dt_tree.proofs.WholeWords.{to_one_word, from_one_word}
 use Rattle.dt_tree.proofs.laws.law_whole_knots.Goals as goal
 
 pub returns : goal.returns

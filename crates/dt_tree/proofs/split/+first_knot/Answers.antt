@@ -2,7 +2,7 @@ use Rattle.std.proofs.Common.{arith, ◌∙◌, length, ◌<◌, ◌≡◌, inl,
 use Rattle.std.specs.Prelude.{map}
 use Rattle.dt_forms.specs.View.{pattern_seen}
 use Rattle.dt_tree.proofs.Halves.{bin, short_has_none, whole_copied, bin_inside, bin_in_order, bin_short, answer_from_bins}
-use Rattle.dt_tree.proofs.Seen.{inside_seen}
+use Rattle.dt_tree.proofs.ModelPatterns.{inside_seen}
 use Rattle.dt_tree.proofs.split.+first_knot.Goals as goal
 
 pub returns-then-places-lt2 : goal.returns-then-places-lt2

@@ -3,7 +3,7 @@ use Rattle.std.specs.Prelude.{Contains}
 use Rattle.std.proofs.lemmas.List.{length-map}
 use Rattle.std.proofs.lemmas.Result.{IfOk-weaker}
 use Rattle.dt_forms.specs.View.{pattern_seen}
-use Rattle.dt_tree.specs.Split.{places_of}
+use Rattle.dt_tree.specs.FirstKnots.{places_of}
 use Rattle.dt_tree.proofs.Halves.{every_place, answer_of_all}
 use Rattle.dt_tree.proofs.split.knot_of.Goals as goal
 

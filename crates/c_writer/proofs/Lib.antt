@@ -1,0 +1,6 @@
+pub mod Lines
+pub mod FirstNames
+pub mod Rules
+pub mod Declared
+pub mod Chains
+pub mod Models

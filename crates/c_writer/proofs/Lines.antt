@@ -1,0 +1,179 @@
+-- The lines of the text have the tokens of their part of the program.
+use Rattle.std.proofs.Common.{◌≡◌, ℕ, ◌+◌, ◌==◌, List, [], ◌∷◌, ◌++◌, true, false, Bool, Some, refl, arith, map, lit<}
+use Rattle.std.specs.Prelude.{flat_map, filter, codes}
+use Rattle.std.specs.List.{All}
+use Rattle.std.proofs.lemmas.List.Elements.{All-head, All-tail, All-map, All-weaker, All-filter, All-nil, All-cons}
+use Rattle.dt_values.specs.Names.{IsName}
+use Rattle.dt_values.specs.Widths.{width_bits}
+use Rattle.dt_values.specs.declared.width.Width.{Width}
+use Rattle.dt_values.specs.declared.width.Width.TheVariants.{W16, W32, W64}
+use Rattle.dt_text.specs.Hexadecimal.{hex}
+use Rattle.dt_forms.specs.Patterns.{FlatPattern}
+use Rattle.dt_forms.specs.Sound.{IsSoundPattern}
+use Rattle.c_subset.specs.Bytes.{IsWord}
+use Rattle.c_subset.specs.Tokens.{Token, word, mark, read, tokens_of}
+use Rattle.c_subset.specs.Programs as c
+use Rattle.c_subset.specs.Programs.{Name, Extraction, Prefix, extract, call, Stmts, hex_length, word_type, static_spelled, prototype_spelled, set_spelled, pattern_spelled, extract_spelled, if_spelled, stmt_spelled, stmts_spelled, union_set_spelled, union_spelled, prefix_of, decoder_head_spelled, decoder_end_spelled, decoder_spelled, spelling}
+use Rattle.c_subset.specs.Keeps.{PatternNamed, ExtractionNamed}
+use Rattle.c_subset.proofs.Lexing.{Lexes, line_lexes, lexes_none, lexes_append, lexes_each, tokens_from}
+use Rattle.c_subset.proofs.Seeing.{seen}
+use Rattle.c_subset.proofs.Words.{hex_word_is, decimal_word_is, name_is_word, underscore, word_type_is}
+use Rattle.c_writer.specs.Parts.{NamedPattern, Parts}
+use Rattle.c_writer.specs.Prototypes.{has_other_name, first_of_each_name, prototype_of, prototypes}
+use Rattle.c_writer.specs.Layout.{static_text, head_line, set_lines, typedef_line, prototype_line, prototype_lines, extraction_lines, empty_line, head_of_decoder, decoder_head_lines, union_head_line, union_set_line, union_end_lines, union_lines, union_where_patterns, comment_line, extract_line, call_line, body_lines, if_line, close_line, test_lines, pattern_lines, end_lines, decoder_lines, layout}
+use Rattle.c_writer.specs.Chain.{test_then, chain, prefix_where_patterns, sets_where_patterns, chain_program}
+use Rattle.c_writer.specs.Sound.{IsSoundIn, AreSound}
+
+extract_is_word : IsWord (codes "_extract_")
+extract_is_word = record { some = lit< tt; letters = refl }
+
+hex_of_width : (w : Width) (n : ℕ) → IsWord (hex (hex_length w) n)
+hex_of_width W16 n = hex_word_is 4 n (omega arith)
+hex_of_width W32 n = hex_word_is 8 n (omega arith)
+hex_of_width W64 n = hex_word_is 16 n (omega arith)
+
+static_lexes : (is_static : Bool) → Lexes (static_text is_static) (static_spelled is_static)
+unfolding seen read
+static_lexes true = line_lexes _ _ (tt, tt) refl
+static_lexes false = lexes_none
+
+head_lexes : Lexes head_line []
+unfolding seen read
+head_lexes = line_lexes _ _ (tt, tt) refl
+
+set_lexes : (s : Name) → IsName s → Lexes (set_lines s) (set_spelled s)
+unfolding seen read
+set_lexes s h = line_lexes _ _ (tt, (name_is_word s h, (tt, tt))) refl
+
+typedef_lexes : (p : c.Pattern) → PatternNamed p → Lexes (typedef_line p) (word (codes "typedef") ∷ c.arg_ p.set ∷ c.arg_ p.name ∷ c.semicolon ∷ [])
+unfolding seen read
+typedef_lexes p h = line_lexes _ _ (tt, (name_is_word p.set h.set, (tt, (name_is_word p.name h.name, (tt, tt))))) refl
+
+prototype_lexes : (prefix n : Name) → IsName prefix → IsName n → Lexes (prototype_line prefix n) (prototype_spelled prefix n)
+unfolding seen read
+prototype_lexes prefix n h k =
+    let w = name_is_word n k in
+    line_lexes _ _ (tt, (name_is_word prefix h, (underscore, (w, (tt, (w, (tt, tt))))))) refl
+
+pattern_lexes : (prefix : Prefix) (p : c.Pattern) → IsName prefix.name → PatternNamed p → Lexes (prototype_lines prefix p) (pattern_spelled prefix p)
+pattern_lexes prefix p h k = lexes_append (typedef_lexes p k) (lexes_append (static_lexes prefix.is_static) (prototype_lexes prefix.name p.name h k.name))
+
+extraction_lexes : (w : Width) (decoder : Name) (e : Extraction) → IsName decoder → ExtractionNamed e → Lexes (extraction_lines w decoder e) (extract_spelled w decoder e)
+unfolding seen read
+extraction_lexes w decoder e h k =
+    line_lexes _ _ (tt, (name_is_word decoder h, (extract_is_word, (name_is_word e.format k.format, (tt, (name_is_word e.set k.set, (tt, (word_type_is w, (tt, tt))))))))) refl
+
+empty_lexes : Lexes empty_line []
+unfolding seen read
+empty_lexes = line_lexes _ _ (tt, tt) refl
+
+decoder_lexes : (w : Width) (decoder : Name) → IsName decoder → Lexes (head_of_decoder w decoder) (word (codes "bool") ∷ word decoder ∷ c.first_parameter (word (word_type w) ∷ word (codes "insn") ∷ c.close_round ∷ c.open_brace ∷ []))
+unfolding seen read
+decoder_lexes w decoder h = line_lexes _ _ (tt, (name_is_word decoder h, (tt, (word_type_is w, (tt, tt))))) refl
+
+decoder_head_lexes : (w : Width) (decoder : Name) (is_static : Bool) → IsName decoder → Lexes (decoder_head_lines w decoder is_static) (decoder_head_spelled w decoder is_static)
+decoder_head_lexes w decoder is_static h = lexes_append empty_lexes (lexes_append (static_lexes is_static) (decoder_lexes w decoder h))
+
+union_head_lexes : Lexes union_head_line (word (codes "union") ∷ c.open_brace ∷ [])
+unfolding seen read
+union_head_lexes = line_lexes _ _ (tt, tt) refl
+
+union_set_lexes : (s : Name) → IsName s → Lexes (union_set_line s) (union_set_spelled s)
+unfolding seen read
+union_set_lexes s h = let w = name_is_word s h in line_lexes _ _ (tt, (w, (tt, (w, (tt, tt))))) refl
+
+union_end_lexes : Lexes union_end_lines (c.close_brace ∷ word (codes "u") ∷ c.semicolon ∷ [])
+unfolding seen read
+union_end_lexes = line_lexes _ _ (tt, tt) refl
+
+union_lexes : (p : c.Pattern) (ps : List c.Pattern) (sets : List Name) → All IsName sets → Lexes (union_lines sets) (union_spelled (p ∷ ps) sets)
+union_lexes p ps sets h = lexes_append union_head_lexes (lexes_append (lexes_each IsName union_set_line union_set_spelled union_set_lexes sets h) union_end_lexes)
+
+comment_lexes : {width : ℕ} (level : ℕ) (p : FlatPattern) → IsSoundPattern width p → Lexes (comment_line level p) []
+unfolding seen read
+comment_lexes level p h = line_lexes _ _ (tt, (tt, (decimal_word_is (p.file + 1) (omega (arith, h.file_below)), (tt, (decimal_word_is p.line (omega (arith, h.line_below)), (tt, tt)))))) refl
+
+extract_line_lexes : (w : Width) (level : ℕ) (decoder prefix format set : Name) → IsName decoder → IsName format → IsName set → Lexes (extract_line level decoder format set) (stmt_spelled w decoder prefix (extract format set))
+unfolding seen read
+extract_line_lexes w level decoder prefix format set h k l =
+    line_lexes _ _ (tt, (name_is_word decoder h, (extract_is_word, (name_is_word format k, (tt, (name_is_word set l, (tt, tt))))))) refl
+
+call_line_lexes : (w : Width) (level : ℕ) (decoder prefix n set : Name) → IsName prefix → IsName n → IsName set → Lexes (call_line level prefix n set) (stmt_spelled w decoder prefix (call n set))
+unfolding seen read
+call_line_lexes w level decoder prefix n set h k l =
+    line_lexes _ _ (tt, (tt, (name_is_word prefix h, (underscore, (name_is_word n k, (tt, (name_is_word set l, (tt, tt)))))))) refl
+
+if_line_lexes : (w : Width) (level mask value : ℕ) → Lexes (if_line w level mask value) (if_spelled w mask value)
+unfolding seen read
+if_line_lexes w level mask value = line_lexes _ _ (tt, (tt, (hex_of_width w mask, (tt, (hex_of_width w value, (tt, tt)))))) refl
+
+close_line_lexes : (level : ℕ) → Lexes (close_line level) (mark 125 ∷ [])
+unfolding seen read
+close_line_lexes level = line_lexes _ _ (tt, (tt, tt)) refl
+
+end_lexes : Lexes end_lines decoder_end_spelled
+unfolding seen read
+end_lexes = line_lexes _ _ (tt, tt) refl
+
+body_lexes : (p : Parts) (level : ℕ) (q : NamedPattern) → IsName p.decoder → IsName p.prefix.name → IsSoundIn p q
+    → Lexes (body_lines p level q) (stmt_spelled p.width p.decoder p.prefix.name (extract q.format q.set) ++ stmt_spelled p.width p.decoder p.prefix.name (call q.pattern.name q.set))
+body_lexes p level q h k s =
+    lexes_append (comment_lexes level q.pattern s.pattern)
+    (lexes_append (extract_line_lexes p.width level p.decoder p.prefix.name q.format q.set h s.format_named s.set_named)
+    (call_line_lexes p.width level p.decoder p.prefix.name q.pattern.name q.set k s.pattern.named s.set_named))
+
+-- a test and what follows it
+test_lexes : (b : Bool) (p : Parts) (q : NamedPattern) (rest : Stmts) (bytes : List ℕ) → IsName p.decoder → IsName p.prefix.name → IsSoundIn p q → Lexes bytes (stmts_spelled p.width p.decoder p.prefix.name rest)
+    → Lexes (test_lines b p q ++ bytes) (stmts_spelled p.width p.decoder p.prefix.name (test_then b q rest))
+test_lexes true p q rest bytes h k s r = lexes_append (body_lexes p 4 q h k s) r
+test_lexes false p q rest bytes h k s r =
+    lexes_append (lexes_append (if_line_lexes p.width 4 q.pattern.fixed_mask q.pattern.fixed_bits) (lexes_append (body_lexes p 8 q h k s) (close_line_lexes 4))) r
+
+chain_lexes : (p : Parts) (qs : List NamedPattern) → IsName p.decoder → IsName p.prefix.name → All (IsSoundIn p) qs → Lexes (flat_map (pattern_lines p) qs) (stmts_spelled p.width p.decoder p.prefix.name (chain qs))
+chain_lexes p [] h k s = lexes_none
+chain_lexes p (q ∷ qs) h k s =
+    test_lexes (q.pattern.fixed_mask == 0) p q (chain qs) _ h k (All-head (IsSoundIn p) q qs s) (chain_lexes p qs h k (All-tail (IsSoundIn p) q qs s))
+
+-- the first patterns of names are sound as all are
+pub firsts_have : (P : NamedPattern → Type 0) (qs : List NamedPattern) → All P qs → All P (first_of_each_name qs)
+firsts_have P [] h = h
+firsts_have P (q ∷ qs) h = All-cons P q _ (All-head P q qs h) (All-filter (has_other_name q) P (first_of_each_name qs) (firsts_have P qs (All-tail P q qs h)))
+
+pub prototypes_named : (p : Parts) → AreSound p → All PatternNamed (prototypes p.patterns)
+prototypes_named p s =
+    All-map PatternNamed prototype_of (first_of_each_name p.patterns)
+    (All-weaker (IsSoundIn p) (λ q. PatternNamed (prototype_of q)) (λ q h. record { name = h.pattern.named; set = h.set_named }) _ (firsts_have (IsSoundIn p) p.patterns s.patterns_sound))
+
+-- the parts that are there where a pattern is
+prototypes_lex : (prefix : Prefix) (qs : List NamedPattern) → IsName prefix.name → All PatternNamed (prototypes qs)
+    → Lexes (flat_map (prototype_lines prefix) (prototypes qs)) (flat_map (pattern_spelled (prefix_of (prefix_where_patterns qs prefix))) (prototypes qs))
+prototypes_lex prefix [] h k = lexes_none
+prototypes_lex prefix (q ∷ qs) h k = lexes_each PatternNamed (prototype_lines prefix) (pattern_spelled prefix) (λ d named. pattern_lexes prefix d h named) (prototypes (q ∷ qs)) k
+
+union_part_lexes : (qs : List NamedPattern) (sets : List Name) → All IsName sets → Lexes (union_where_patterns qs sets) (union_spelled (prototypes qs) (sets_where_patterns qs sets))
+union_part_lexes [] sets h = lexes_none
+union_part_lexes (q ∷ qs) sets h = union_lexes (prototype_of q) (map prototype_of (filter (has_other_name q) (first_of_each_name qs))) sets h
+
+tests_lex : (p : Parts) (qs : List NamedPattern) → IsName p.decoder → IsName p.prefix.name → All (IsSoundIn p) qs
+    → Lexes (flat_map (pattern_lines p) qs) (stmts_spelled p.width p.decoder (prefix_of (prefix_where_patterns qs p.prefix)).name (chain qs))
+tests_lex p [] h k s = lexes_none
+tests_lex p (q ∷ qs) h k s = chain_lexes p (q ∷ qs) h k s
+
+decoder_part_lexes : (p : Parts) → AreSound p → Lexes (decoder_lines p) (decoder_spelled (chain_program p))
+decoder_part_lexes p s =
+    lexes_append (decoder_head_lexes p.width p.decoder p.decoder_static s.decoder_named)
+    (lexes_append (union_part_lexes p.patterns p.sets s.sets_named)
+    (lexes_append (tests_lex p p.patterns s.decoder_named s.prefix_named s.patterns_sound)
+    end_lexes))
+
+text_lexes : (p : Parts) → AreSound p → Lexes (layout p) (spelling (chain_program p))
+unfolding spelling
+text_lexes p s =
+    lexes_append head_lexes
+    (lexes_append (lexes_each IsName set_lines set_spelled set_lexes p.sets s.sets_named)
+    (lexes_append (prototypes_lex p.prefix p.patterns s.prefix_named (prototypes_named p s))
+    (lexes_append (lexes_each ExtractionNamed (extraction_lines p.width p.decoder) (extract_spelled p.width p.decoder) (λ e h. extraction_lexes p.width p.decoder e s.decoder_named h) p.extractions s.extractions_named)
+    (decoder_part_lexes p s))))
+
+pub layout_tokens : (p : Parts) → AreSound p → tokens_of (layout p) ≡ Some (spelling (chain_program p))
+layout_tokens p s = tokens_from (layout p) (spelling (chain_program p)) (text_lexes p s)

@@ -1,0 +1,111 @@
+-- The program of sound parts keeps the rules of the C subset.
+use Rattle.std.proofs.Common.{◌≡◌, ◌≢◌, ◌<◌, ◌^◌, ◌==◌, List, [], ◌∷◌, Bool, true, false, not, refl, sym, arith, map, subst}
+use Rattle.std.specs.Prelude.{◌↔◌, nat_eq, IsSome, IfSome}
+use Rattle.std.specs.List.{All}
+use Rattle.std.specs.Cmp.Lexicographic.{pointwise, nat_list_eq_equiv}
+use Rattle.std.proofs.lemmas.List.Elements.{All-head, All-tail, All-nil, All-cons, All-map, All-weaker, filter_passes}
+use Rattle.std.proofs.lemmas.List.Kept.{AllPairs-cons, AllPairs-filter}
+use Rattle.std.specs.List.{AllPairs}
+use Rattle.std.specs.Prelude.{filter, length, get_or}
+use Rattle.std.proofs.lemmas.List.{get_or-map, length-map}
+use Rattle.dt_values.specs.Names.{IsName}
+use Rattle.dt_values.specs.Widths.{width_bits}
+use Rattle.c_subset.specs.Programs.{Name, Prefix, Pattern, Stmts}
+use Rattle.c_subset.specs.Keeps.{StmtsNamed, StmtsBelow, HaveNoCall, AllDiffer, KeepsRules}
+use Rattle.c_writer.specs.Parts.{NamedPattern, Parts}
+use Rattle.c_writer.specs.Prototypes.{has_other_name, first_of_each_name, prototype_of, prototypes}
+use Rattle.c_writer.specs.Chain.{test_then, chain, prefix_where_patterns, sets_where_patterns, chain_program}
+use Rattle.c_writer.specs.Sound.{IsSoundIn, AreSound}
+use Rattle.c_writer.proofs.Lines.{prototypes_named}
+
+none_differ : AllDiffer []
+none_differ = λ i j d below within. absurd (omega arith)
+
+-- patterns of other names
+abbrev HaveOtherNames : NamedPattern → NamedPattern → Type 0
+HaveOtherNames q r = q.pattern.name ≢ r.pattern.name
+
+other_name : (q r : NamedPattern) → has_other_name q r ≡ true → HaveOtherNames q r
+other_name q r h e =
+    let same : pointwise nat_eq r.pattern.name q.pattern.name ≡ true = subst (λ n. pointwise nat_eq n q.pattern.name ≡ true) e (nat_list_eq_equiv.refl q.pattern.name) in cc
+
+firsts_differ : (qs : List NamedPattern) → AllPairs HaveOtherNames (first_of_each_name qs)
+firsts_differ [] = λ i j d below within. absurd (omega arith)
+firsts_differ (q ∷ qs) =
+    AllPairs-cons HaveOtherNames q _
+    (All-weaker _ (HaveOtherNames q) (other_name q) _ (filter_passes (has_other_name q) (first_of_each_name qs)))
+    (AllPairs-filter HaveOtherNames (has_other_name q) (first_of_each_name qs) (firsts_differ qs))
+
+pub pairs_map : {X Y : Type 0} (R : Y → Y → Type 0) (f : X → Y) (e : X) (xs : List X) → AllPairs (λ x y. R (f x) (f y)) xs → AllPairs R (map f xs)
+pairs_map R f e xs h = λ i j d below within.
+    let last : j < length xs = subst (λ n. j < n) (length-map xs f) within in
+    let first : i < length xs = omega arith in
+    subst (λ y. R y (get_or (map f xs) j d)) (sym (get_or-map f xs i e d first))
+    (subst (λ y. R (f (get_or xs i e)) y) (sym (get_or-map f xs j e d last)) (h i j e below last))
+
+unnamed : NamedPattern
+unnamed = record {
+  pattern = record { name = []; file = 0; line = 0; bits = 0; fixed_mask = 0; fixed_bits = 0 };
+  format = [];
+  set = [];
+}
+
+names_differ : (qs : List NamedPattern) → AllPairs HaveOtherNames qs → AllDiffer (map (λ d. d.name) (map prototype_of qs))
+names_differ qs h =
+    pairs_map (λ x y. x ≢ y) (λ (d : Pattern). d.name) (prototype_of unnamed) (map prototype_of qs)
+    (pairs_map (λ (d e : Pattern). d.name ≢ e.name) prototype_of unnamed qs h)
+
+prefix_there : (qs : List NamedPattern) (prefix : Prefix) → IsSome (prefix_where_patterns qs prefix) ↔ (prototypes qs ≢ [])
+prefix_there [] prefix = ((λ some. cc), (λ none. absurd (none refl)))
+prefix_there (q ∷ qs) prefix = ((λ some. λ none. cc), (λ some. refl))
+
+prefix_has_name : (qs : List NamedPattern) (prefix : Prefix) → IsName prefix.name → IfSome (prefix_where_patterns qs prefix) (λ p. IsName p.name)
+prefix_has_name [] prefix h = tt
+prefix_has_name (q ∷ qs) prefix h = h
+
+union_has : (P : List Name → Type 0) (qs : List NamedPattern) (sets : List Name) → P [] → P sets → P (sets_where_patterns qs sets)
+union_has P [] sets none some = none
+union_has P (q ∷ qs) sets none some = some
+
+union_empty : (qs : List NamedPattern) (sets : List Name) → prototypes qs ≡ [] → sets_where_patterns qs sets ≡ []
+union_empty [] sets h = refl
+union_empty (q ∷ qs) sets h = absurd (cc)
+
+test_named : (p : Parts) (b : Bool) (q : NamedPattern) (rest : Stmts) → IsSoundIn p q → StmtsNamed rest → StmtsNamed (test_then b q rest)
+test_named p true q rest h r = ((h.format_named, h.set_named), ((h.pattern.named, h.set_named), r))
+test_named p false q rest h r = (((h.format_named, h.set_named), ((h.pattern.named, h.set_named), tt)), r)
+
+chain_named : (p : Parts) (qs : List NamedPattern) → All (IsSoundIn p) qs → StmtsNamed (chain qs)
+chain_named p [] h = tt
+chain_named p (q ∷ qs) h = test_named p (q.pattern.fixed_mask == 0) q (chain qs) (All-head (IsSoundIn p) q qs h) (chain_named p qs (All-tail (IsSoundIn p) q qs h))
+
+test_below : (p : Parts) (b : Bool) (q : NamedPattern) (rest : Stmts) → IsSoundIn p q → StmtsBelow (2 ^ width_bits p.width) rest → StmtsBelow (2 ^ width_bits p.width) (test_then b q rest)
+test_below p true q rest h r = (tt, (tt, r))
+test_below p false q rest h r = ((h.pattern.mask_below, h.pattern.bits_below, (tt, (tt, tt))), r)
+
+chain_below : (p : Parts) (qs : List NamedPattern) → All (IsSoundIn p) qs → StmtsBelow (2 ^ width_bits p.width) (chain qs)
+chain_below p [] h = tt
+chain_below p (q ∷ qs) h = test_below p (q.pattern.fixed_mask == 0) q (chain qs) (All-head (IsSoundIn p) q qs h) (chain_below p qs (All-tail (IsSoundIn p) q qs h))
+
+no_calls : (qs : List NamedPattern) → prototypes qs ≡ [] → HaveNoCall (chain qs)
+no_calls [] h = tt
+no_calls (q ∷ qs) h = absurd (cc)
+
+pub keeps_rules : (p : Parts) → AreSound p → KeepsRules (chain_program p)
+keeps_rules p s = record {
+  sets_named = s.sets_named;
+  sets_differ = s.sets_differ;
+  prefix_with_patterns = prefix_there p.patterns p.prefix;
+  prefix_named = prefix_has_name p.patterns p.prefix s.prefix_named;
+  patterns_named = prototypes_named p s;
+  patterns_differ = names_differ (first_of_each_name p.patterns) (firsts_differ p.patterns);
+  extracts_named = s.extractions_named;
+  formats_differ = s.formats_differ;
+  decoder_named = s.decoder_named;
+  union_sets_named = union_has (All IsName) p.patterns p.sets (All-nil IsName) s.sets_named;
+  union_sets_differ = union_has AllDiffer p.patterns p.sets none_differ s.sets_differ;
+  union_with_patterns = union_empty p.patterns p.sets;
+  body_named = chain_named p p.patterns s.patterns_sound;
+  body_below = chain_below p p.patterns s.patterns_sound;
+  calls_with_patterns = no_calls p.patterns;
+}

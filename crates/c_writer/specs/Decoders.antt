@@ -1,0 +1,28 @@
+-- Which texts decode what a list of patterns says: for every word and script, the calls of trying them one after another.
+use Rattle.std.specs.Prelude.{◌≡◌, ℕ, Bool, List, [], Option}
+use Rattle.c_subset.specs.Programs.{Program}
+use Rattle.c_subset.specs.Spells.{Spells}
+use Rattle.dt_io.specs.Bytes.{extend}
+use Rattle.dt_forms.specs.Patterns.{FlatPattern}
+use Rattle.dt_match.specs.Hosts.{script}
+use Rattle.dt_match.specs.Trial.{trial_of}
+use Rattle.c_eval.specs.Runs.{run_of}
+use Rattle.c_writer.specs.Agrees.{AgreesWith}
+
+-- for every word and every script of outcomes, the program's run makes the calls of the trial
+abbrev pub Decodes : Program → List FlatPattern → Type 0
+Decodes program ps =
+    (word : ℕ) (outcomes : List Bool)
+    → AgreesWith (trial_of (script outcomes) ps word 0) (run_of program [] (script outcomes) word 0)
+
+-- there is a program that the text spells, and it decodes the patterns
+pub record IsDecoder (text : List ℕ) (ps : List FlatPattern) : Type 0 where
+  pub program : Program
+  pub spells : Spells text program
+  pub decodes : Decodes program ps
+
+-- a decoder of these patterns came behind the bytes that are known
+pub record AppendsDecoder (old new : Option (List ℕ)) (ps : List FlatPattern) : Type 0 where
+  pub text : List ℕ
+  pub decoder : IsDecoder text ps
+  pub written : new ≡ extend old text

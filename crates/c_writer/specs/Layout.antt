@@ -1,0 +1,124 @@
+-- The bytes of the C text of a decoder, line by line (docs/C_SUBSET.md, "The text").
+use Rattle.std.specs.Prelude.{ℕ, ◌+◌, ◌==◌, Bool, true, false, List, [], ◌∷◌, ◌++◌, flat_map, codes, decimal}
+use Rattle.dt_values.specs.declared.width.Width.{Width}
+use Rattle.dt_text.specs.Hexadecimal.{hex}
+use Rattle.dt_text.specs.Pieces.{text, name, spaces, pieces_text}
+use Rattle.dt_forms.specs.Patterns.{FlatPattern}
+use Rattle.c_subset.specs.Programs as c
+use Rattle.c_subset.specs.Programs.{Name, Extraction, Prefix, hex_length, word_type}
+use Rattle.c_writer.specs.Parts.{NamedPattern, Parts}
+use Rattle.c_writer.specs.Prototypes.{prototypes}
+
+abbrev pub static_text : Bool → List ℕ
+static_text true = pieces_text (text (codes "static ") ∷ [])
+static_text false = []
+
+abbrev pub head_line : List ℕ
+head_line = pieces_text (text (codes "/* Made from pattern files. */\n") ∷ [])
+
+abbrev pub set_lines : Name → List ℕ
+set_lines s = pieces_text (text (codes "\ntypedef struct {\n} arg_") ∷ name s ∷ text (codes ";\n") ∷ [])
+
+abbrev pub typedef_line : c.Pattern → List ℕ
+typedef_line p = pieces_text (text (codes "\ntypedef arg_") ∷ name p.set ∷ text (codes " arg_") ∷ name p.name ∷ text (codes ";\n") ∷ [])
+
+abbrev pub prototype_line : Name → Name → List ℕ
+prototype_line prefix n =
+    pieces_text (text (codes "bool ") ∷ name prefix ∷ name (codes "_") ∷ name n
+    ∷ text (codes "(DisasContext *ctx, arg_") ∷ name n ∷ text (codes " *a);\n") ∷ [])
+
+-- a pattern's typedef and its prototype, static or not
+abbrev pub prototype_lines : Prefix → c.Pattern → List ℕ
+prototype_lines prefix p = typedef_line p ++ (static_text prefix.is_static ++ prototype_line prefix.name p.name)
+
+abbrev pub extraction_lines : Width → Name → Extraction → List ℕ
+extraction_lines w decoder e =
+    pieces_text (text (codes "\nstatic void ") ∷ name decoder ∷ name (codes "_extract_") ∷ name e.format
+    ∷ text (codes "(DisasContext *ctx, arg_") ∷ name e.set ∷ text (codes " *a, ") ∷ name (word_type w)
+    ∷ text (codes " insn)\n{\n}\n") ∷ [])
+
+abbrev pub empty_line : List ℕ
+empty_line = pieces_text (text (codes "\n") ∷ [])
+
+abbrev pub head_of_decoder : Width → Name → List ℕ
+head_of_decoder w decoder =
+    pieces_text (text (codes "bool ") ∷ name decoder ∷ text (codes "(DisasContext *ctx, ") ∷ name (word_type w)
+    ∷ text (codes " insn)\n{\n") ∷ [])
+
+abbrev pub decoder_head_lines : Width → Name → Bool → List ℕ
+decoder_head_lines w decoder is_static = empty_line ++ (static_text is_static ++ head_of_decoder w decoder)
+
+abbrev pub union_head_line : List ℕ
+union_head_line = pieces_text (text (codes "    union {\n") ∷ [])
+
+abbrev pub union_set_line : Name → List ℕ
+union_set_line s = pieces_text (text (codes "        arg_") ∷ name s ∷ text (codes " f_") ∷ name s ∷ text (codes ";\n") ∷ [])
+
+abbrev pub union_end_lines : List ℕ
+union_end_lines = pieces_text (text (codes "    } u;\n\n") ∷ [])
+
+abbrev pub union_lines : List Name → List ℕ
+union_lines sets = union_head_line ++ (flat_map union_set_line sets ++ union_end_lines)
+
+-- the union, where there is a pattern
+abbrev pub union_where_patterns : List NamedPattern → List Name → List ℕ
+union_where_patterns [] sets = []
+union_where_patterns (q ∷ qs) sets = union_lines sets
+
+-- the file's number, counted from 1, and the line
+abbrev pub comment_line : ℕ → FlatPattern → List ℕ
+comment_line level p =
+    pieces_text (spaces level ∷ text (codes "/* ") ∷ name (decimal (p.file + 1)) ∷ text (codes ":") ∷ name (decimal p.line)
+    ∷ text (codes " */\n") ∷ [])
+
+abbrev pub extract_line : ℕ → Name → Name → Name → List ℕ
+extract_line level decoder format set =
+    pieces_text (spaces level ∷ name decoder ∷ name (codes "_extract_") ∷ name format
+    ∷ text (codes "(ctx, &u.f_") ∷ name set ∷ text (codes ", insn);\n") ∷ [])
+
+abbrev pub call_line : ℕ → Name → Name → Name → List ℕ
+call_line level prefix n set =
+    pieces_text (spaces level ∷ text (codes "if (") ∷ name prefix ∷ name (codes "_") ∷ name n
+    ∷ text (codes "(ctx, &u.f_") ∷ name set ∷ text (codes ")) return true;\n") ∷ [])
+
+abbrev pub body_lines : Parts → ℕ → NamedPattern → List ℕ
+body_lines p level q =
+    comment_line level q.pattern
+    ++ (extract_line level p.decoder q.format q.set
+    ++ call_line level p.prefix.name q.pattern.name q.set)
+
+abbrev pub if_line : Width → ℕ → ℕ → ℕ → List ℕ
+if_line w level mask value =
+    pieces_text (spaces level ∷ text (codes "if ((insn & 0x") ∷ name (hex (hex_length w) mask)
+    ∷ text (codes ") == 0x") ∷ name (hex (hex_length w) value) ∷ text (codes ") {\n") ∷ [])
+
+abbrev pub close_line : ℕ → List ℕ
+close_line level = pieces_text (spaces level ∷ text (codes "}\n") ∷ [])
+
+-- a pattern that fixes no bit has its body alone
+abbrev pub test_lines : Bool → Parts → NamedPattern → List ℕ
+test_lines true p q = body_lines p 4 q
+test_lines false p q =
+    if_line p.width 4 q.pattern.fixed_mask q.pattern.fixed_bits ++ (body_lines p 8 q ++ close_line 4)
+
+abbrev pub pattern_lines : Parts → NamedPattern → List ℕ
+pattern_lines p q = test_lines (q.pattern.fixed_mask == 0) p q
+
+abbrev pub end_lines : List ℕ
+end_lines = pieces_text (text (codes "    return false;\n}\n") ∷ [])
+
+abbrev pub decoder_lines : Parts → List ℕ
+decoder_lines p =
+    decoder_head_lines p.width p.decoder p.decoder_static
+    ++ (union_where_patterns p.patterns p.sets
+    ++ (flat_map (pattern_lines p) p.patterns
+    ++ end_lines))
+
+-- the bytes of the text
+abbrev pub layout : Parts → List ℕ
+layout p =
+    head_line
+    ++ (flat_map set_lines p.sets
+    ++ (flat_map (prototype_lines p.prefix) (prototypes p.patterns)
+    ++ (flat_map (extraction_lines p.width p.decoder) p.extractions
+    ++ decoder_lines p)))

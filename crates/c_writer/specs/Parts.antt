@@ -1,0 +1,66 @@
+-- What the C text of a decoder is made of: what the options say, and the sets, formats and patterns of pattern files by their names (docs/C_SUBSET.md, "The text").
+use Rattle.std.specs.Prelude.{ℕ, Bool, List, [], map, get_or}
+use Rattle.dt_values.specs.declared.width.Width.{Width}
+use Rattle.dt_fields.specs.declared.set.SetDef.{SetDef}
+use Rattle.dt_forms.specs.declared.form.Format.{Format}
+use Rattle.dt_forms.specs.declared.form.Pattern.{Pattern}
+use Rattle.dt_forms.specs.declared.options.Options.{Options}
+use Rattle.dt_forms.specs.Models.{Definitions}
+use Rattle.dt_forms.specs.Patterns.{FlatPattern}
+use Rattle.dt_forms.specs.Sound.{set_number}
+use Rattle.dt_forms.specs.View.{pattern_seen}
+use Rattle.c_subset.specs.Programs.{Name, Extraction, Prefix}
+
+-- a pattern with the names of its format and of its set
+pub record NamedPattern : Type 0 where
+  pub pattern : FlatPattern
+  pub format : Name
+  pub set : Name
+
+pub record Parts : Type 0 where
+  pub width : Width
+  pub decoder : Name
+  pub decoder_static : Bool
+  pub prefix : Prefix
+  -- the sets and the extractions, in order of definition
+  pub sets : List Name
+  pub extractions : List Extraction
+  -- the flat list
+  pub patterns : List NamedPattern
+
+abbrev pub set_name : List SetDef → ℕ → Name
+set_name sets n = get_or (map (λ s. s.name) sets) n []
+
+abbrev pub format_name : List Format → ℕ → Name
+format_name formats n = get_or (map (λ f. f.name) formats) n []
+
+-- a format with its set, each by its name
+abbrev pub extraction_of : List SetDef → Format → Extraction
+extraction_of sets f = record { format = f.name; set = set_name sets f.set }
+
+abbrev pub named_pattern : List SetDef → List Format → Pattern → NamedPattern
+named_pattern sets formats p = record {
+  pattern = pattern_seen p;
+  format = format_name formats p.format;
+  set = set_name sets (set_number formats p);
+}
+
+-- what stands before the translators' names
+abbrev pub prefix_in : Options → Prefix
+prefix_in options = record { name = options.translate; is_static = options.translate_static }
+
+-- what a text is made of for these options and definitions
+abbrev pub parts_of : Options → Definitions → Parts
+parts_of options ds = record {
+  width = options.width;
+  decoder = options.decode;
+  decoder_static = options.decode_static;
+  prefix = prefix_in options;
+  sets = map (λ s. s.name) ds.sets;
+  extractions = map (extraction_of ds.sets) ds.formats;
+  patterns = map (named_pattern ds.sets ds.formats) ds.patterns;
+}
+
+-- the patterns alone
+abbrev pub patterns_in : Parts → List FlatPattern
+patterns_in p = map (λ q. q.pattern) p.patterns

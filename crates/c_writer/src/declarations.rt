@@ -1,0 +1,158 @@
+//! Writes what stands before the decoder: sets, prototypes, extractions.
+
+ghost use Rattle.std.specs.Prelude.{◌≡◌, flat_map, map};
+ghost use Rattle.dt_text.specs.Puts.{Puts};
+ghost use Rattle.c_subset.specs.Programs.{word_type};
+ghost use Rattle.c_writer.specs.Layout.{extraction_lines, head_line, prototype_line, prototype_lines, set_lines, static_text, typedef_line};
+ghost use Rattle.c_writer.specs.Parts.{extraction_of, prefix_in};
+ghost use Rattle.c_writer.specs.Prototypes.{prototype_seen};
+ghost use Rattle.c_writer.specs.Within.{AreFormsWithin, IsFormatWithin};
+
+use crate::prototype::{Prototype, set_name};
+use dt_fields::SetDef;
+use dt_forms::{Format, Options};
+use dt_text::{Out, Part, write_parts};
+use dt_values::{Name, Width};
+
+pub fn write_head<W: Out>(out: &mut W)
+    ensures { Puts (W.state out.old) (W.state out.new) head_line }
+{
+    write_parts(out, &[Part::Text(b"/* Made from pattern files. */\n")]);
+}
+
+/// Writes `static ` where that is said.
+#[tactic(auto, using(dt_text::proofs::Putting::puts_nothing))]
+pub fn write_static<W: Out>(out: &mut W, is_static: bool)
+    ensures { Puts (W.state out.old) (W.state out.new) (static_text is_static) }
+{
+    if is_static {
+        write_parts(out, &[Part::Text(b"static ")]);
+    }
+}
+
+/// The C type of an instruction word.
+pub fn word_type(width: Width) -> &'static [u8]
+    ensures { result.now ≡ word_type width }
+{
+    match width {
+        Width::W16 => b"uint16_t",
+        Width::W32 => b"uint32_t",
+        Width::W64 => b"uint64_t",
+    }
+}
+
+fn write_set<W: Out>(out: &mut W, name: &Name)
+    ensures { Puts (W.state out.old) (W.state out.new) (set_lines name.now) }
+{
+    write_parts(
+        out,
+        &[
+            Part::Text(b"\ntypedef struct {\n} arg_"),
+            Part::Name(name),
+            Part::Text(b";\n"),
+        ],
+    );
+}
+
+#[tactic(auto, using(dt_text::proofs::Putting::puts_nothing))]
+pub fn write_sets<W: Out>(out: &mut W, sets: &[SetDef])
+    ensures { Puts (W.state out.old) (W.state out.new) (flat_map set_lines (map (λ s. s.name) sets.now)) }
+{
+    for set in sets {
+        write_set(out, &set.name);
+    }
+}
+
+fn write_typedef<W: Out>(out: &mut W, prototype: &Prototype)
+    ensures { Puts (W.state out.old) (W.state out.new) (typedef_line (prototype_seen prototype.now)) }
+{
+    write_parts(
+        out,
+        &[
+            Part::Text(b"\ntypedef arg_"),
+            Part::Name(&prototype.set),
+            Part::Text(b" arg_"),
+            Part::Name(&prototype.name),
+            Part::Text(b";\n"),
+        ],
+    );
+}
+
+fn write_prototype_line<'a, W: Out>(out: &mut W, prefix: &'a Name, name: &'a Name)
+    ensures { Puts (W.state out.old) (W.state out.new) (prototype_line prefix.now name.now) }
+{
+    write_parts(
+        out,
+        &[
+            Part::Text(b"bool "),
+            Part::Name(prefix),
+            Part::Word(b"_"),
+            Part::Name(name),
+            Part::Text(b"(DisasContext *ctx, arg_"),
+            Part::Name(name),
+            Part::Text(b" *a);\n"),
+        ],
+    );
+}
+
+fn write_prototype<W: Out>(out: &mut W, options: &Options, prototype: &Prototype)
+    ensures { Puts (W.state out.old) (W.state out.new)
+        (prototype_lines (prefix_in options.now) (prototype_seen prototype.now)) }
+{
+    write_typedef(out, prototype);
+    write_static(out, options.translate_static);
+    write_prototype_line(out, &options.translate, &prototype.name);
+}
+
+#[tactic(auto, using(dt_text::proofs::Putting::puts_nothing))]
+pub fn write_prototypes<W: Out>(out: &mut W, options: &Options, prototypes: &[Prototype])
+    ensures { Puts (W.state out.old) (W.state out.new)
+        (flat_map (prototype_lines (prefix_in options.now)) (map prototype_seen prototypes.now)) }
+{
+    for prototype in prototypes {
+        write_prototype(out, options, prototype);
+    }
+}
+
+fn write_extraction<'a, W: Out>(
+    out: &mut W,
+    options: &'a Options,
+    sets: &'a [SetDef],
+    format: &'a Format,
+)
+    requires { IsFormatWithin sets.now format.now }
+    ensures { Puts (W.state out.old) (W.state out.new)
+        (extraction_lines options.now.width options.now.decode (extraction_of sets.now format.now)) }
+{
+    let set = set_name(sets, format.set);
+    write_parts(
+        out,
+        &[
+            Part::Text(b"\nstatic void "),
+            Part::Name(&options.decode),
+            Part::Word(b"_extract_"),
+            Part::Name(&format.name),
+            Part::Text(b"(DisasContext *ctx, arg_"),
+            Part::Name(set),
+            Part::Text(b" *a, "),
+            Part::Word(word_type(options.width)),
+            Part::Text(b" insn)\n{\n}\n"),
+        ],
+    );
+}
+
+#[tactic(auto, using(dt_text::proofs::Putting::puts_nothing))]
+pub fn write_extractions<W: Out>(
+    out: &mut W,
+    options: &Options,
+    sets: &[SetDef],
+    formats: &[Format],
+)
+    requires { AreFormsWithin sets.now formats.now }
+    ensures { Puts (W.state out.old) (W.state out.new)
+        (flat_map (extraction_lines options.now.width options.now.decode) (map (extraction_of sets.now) formats.now)) }
+{
+    for format in formats {
+        write_extraction(out, options, sets, format);
+    }
+}

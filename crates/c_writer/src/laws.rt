@@ -1,0 +1,23 @@
+//! Laws of the text: public functions whose contracts are the laws, and whose bodies are empty.
+
+ghost use Rattle.std.specs.Prelude.{ℕ, Bool, List, []};
+ghost use Rattle.c_subset.specs.Spells.{Spells};
+ghost use Rattle.dt_match.specs.Hosts.{Host};
+ghost use Rattle.dt_match.specs.Trial.{trial_of};
+ghost use Rattle.c_eval.specs.Runs.{run_of};
+ghost use Rattle.c_writer.specs.Agrees.{AgreesWith};
+ghost use Rattle.c_writer.specs.Chain.{chain_program};
+ghost use Rattle.c_writer.specs.Layout.{layout};
+ghost use Rattle.c_writer.specs.Parts.{Parts, patterns_in};
+ghost use Rattle.c_writer.specs.Sound.{AreSound};
+
+/// The text of sound parts spells the program that tries their patterns one after another.
+pub fn law_text_spells_program()
+    ensures { (p : Parts) → AreSound p → Spells (layout p) (chain_program p) }
+{}
+
+/// This program makes the calls of trying the patterns one after another, for every host.
+pub fn law_run_is_trial<S>()
+    ensures { (host : Host S) (p : Parts) (word : ℕ) (state : S) → AreSound p
+        → AgreesWith (trial_of host (patterns_in p) word state) (run_of (chain_program p) [] host word state) }
+{}

@@ -1,0 +1,8 @@
+//! The C text of a decoder: how it is written, the program that it spells, and the laws between them.
+#![tactic(auto)]
+
+pub mod declarations;
+pub mod laws;
+pub mod prototype;
+pub mod statements;
+pub mod text;

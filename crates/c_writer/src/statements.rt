@@ -1,0 +1,273 @@
+//! Writes the decoder: its head, its union, and a test and a body for each pattern.
+
+ghost use Rattle.std.specs.Prelude.{◌≡◌, false, flat_map, map, All};
+ghost use Rattle.dt_text.specs.Puts.{Puts};
+ghost use Rattle.dt_forms.specs.View.{pattern_seen};
+ghost use Rattle.c_subset.specs.Programs.{hex_length};
+ghost use Rattle.c_writer.specs.Layout.{body_lines, call_line, close_line, comment_line, decoder_head_lines, empty_line, end_lines, extract_line, head_of_decoder, if_line, pattern_lines, test_lines, union_end_lines, union_head_line, union_lines, union_set_line, union_where_patterns};
+ghost use Rattle.c_writer.specs.Parts.{format_name, named_pattern, parts_of};
+ghost use Rattle.c_writer.specs.Within.{AreWithin, IsPatternWithin};
+ghost use Rattle.dt_forms.specs.Models.{definitions_in};
+
+use crate::declarations::{word_type, write_static};
+use crate::prototype::set_of;
+use dt_fields::SetDef;
+use dt_forms::{Format, Model, Options, Pattern};
+use dt_text::{Out, Part, write_parts};
+use dt_values::{Name, Width};
+
+fn write_empty_line<W: Out>(out: &mut W)
+    ensures { Puts (W.state out.old) (W.state out.new) empty_line }
+{
+    write_parts(out, &[Part::Text(b"\n")]);
+}
+
+fn write_head_of_decoder<W: Out>(out: &mut W, width: Width, decoder: &Name)
+    ensures { Puts (W.state out.old) (W.state out.new) (head_of_decoder width decoder.now) }
+{
+    write_parts(
+        out,
+        &[
+            Part::Text(b"bool "),
+            Part::Name(decoder),
+            Part::Text(b"(DisasContext *ctx, "),
+            Part::Word(word_type(width)),
+            Part::Text(b" insn)\n{\n"),
+        ],
+    );
+}
+
+pub fn write_decoder_head<W: Out>(out: &mut W, options: &Options)
+    ensures { Puts (W.state out.old) (W.state out.new)
+        (decoder_head_lines options.now.width options.now.decode options.now.decode_static) }
+{
+    write_empty_line(out);
+    write_static(out, options.decode_static);
+    write_head_of_decoder(out, options.width, &options.decode);
+}
+
+fn write_union_head<W: Out>(out: &mut W)
+    ensures { Puts (W.state out.old) (W.state out.new) union_head_line }
+{
+    write_parts(out, &[Part::Text(b"    union {\n")]);
+}
+
+fn write_union_set<W: Out>(out: &mut W, name: &Name)
+    ensures { Puts (W.state out.old) (W.state out.new) (union_set_line name.now) }
+{
+    write_parts(
+        out,
+        &[
+            Part::Text(b"        arg_"),
+            Part::Name(name),
+            Part::Text(b" f_"),
+            Part::Name(name),
+            Part::Text(b";\n"),
+        ],
+    );
+}
+
+#[tactic(auto, using(dt_text::proofs::Putting::puts_nothing))]
+fn write_union_sets<W: Out>(out: &mut W, sets: &[SetDef])
+    ensures { Puts (W.state out.old) (W.state out.new) (flat_map union_set_line (map (λ s. s.name) sets.now)) }
+{
+    for set in sets {
+        write_union_set(out, &set.name);
+    }
+}
+
+fn write_union_end<W: Out>(out: &mut W)
+    ensures { Puts (W.state out.old) (W.state out.new) union_end_lines }
+{
+    write_parts(out, &[Part::Text(b"    } u;\n\n")]);
+}
+
+fn write_union<W: Out>(out: &mut W, sets: &[SetDef])
+    ensures { Puts (W.state out.old) (W.state out.new) (union_lines (map (λ s. s.name) sets.now)) }
+{
+    write_union_head(out);
+    write_union_sets(out, sets);
+    write_union_end(out);
+}
+
+/// Writes the union, where there is a pattern.
+#[tactic(auto, using(dt_text::proofs::Putting::puts_nothing))]
+pub fn write_union_where_patterns<W: Out>(out: &mut W, model: &Model)
+    ensures { Puts (W.state out.old) (W.state out.new)
+        (union_where_patterns (map (named_pattern model.now.sets model.now.formats) model.now.patterns)
+        (map (λ s. s.name) model.now.sets)) }
+{
+    if model.patterns.items().is_empty() {
+        return;
+    }
+    write_union(out, model.sets.items());
+}
+
+// The file's number is counted from 1.
+fn write_comment_line<W: Out>(out: &mut W, level: u32, pattern: &Pattern)
+    ensures { Puts (W.state out.old) (W.state out.new) (comment_line level (pattern_seen pattern.now)) }
+{
+    write_parts(
+        out,
+        &[
+            Part::Spaces(level),
+            Part::Text(b"/* "),
+            Part::Decimal(pattern.file as u64 + 1),
+            Part::Text(b":"),
+            Part::Decimal(pattern.line as u64),
+            Part::Text(b" */\n"),
+        ],
+    );
+}
+
+fn write_extract_line<'a, W: Out>(
+    out: &mut W,
+    level: u32,
+    decoder: &'a Name,
+    format: &'a Name,
+    set: &'a Name,
+)
+    ensures { Puts (W.state out.old) (W.state out.new) (extract_line level decoder.now format.now set.now) }
+{
+    write_parts(
+        out,
+        &[
+            Part::Spaces(level),
+            Part::Name(decoder),
+            Part::Word(b"_extract_"),
+            Part::Name(format),
+            Part::Text(b"(ctx, &u.f_"),
+            Part::Name(set),
+            Part::Text(b", insn);\n"),
+        ],
+    );
+}
+
+fn write_call_line<'a, W: Out>(
+    out: &mut W,
+    level: u32,
+    prefix: &'a Name,
+    name: &'a Name,
+    set: &'a Name,
+)
+    ensures { Puts (W.state out.old) (W.state out.new) (call_line level prefix.now name.now set.now) }
+{
+    write_parts(
+        out,
+        &[
+            Part::Spaces(level),
+            Part::Text(b"if ("),
+            Part::Name(prefix),
+            Part::Word(b"_"),
+            Part::Name(name),
+            Part::Text(b"(ctx, &u.f_"),
+            Part::Name(set),
+            Part::Text(b")) return true;\n"),
+        ],
+    );
+}
+
+// The name of a pattern's format.
+fn format_of<'a>(formats: &'a [Format], pattern: &Pattern) -> &'a Name
+    requires { IsPatternWithin formats.now pattern.now }
+    ensures { result.now ≡ format_name formats.now pattern.now.format }
+{
+    &formats[pattern.format as usize].name
+}
+
+fn write_body<W: Out>(out: &mut W, options: &Options, model: &Model, level: u32, pattern: &Pattern)
+    requires within { AreWithin (definitions_in model.now) }
+    requires pattern { IsPatternWithin model.now.formats pattern.now }
+    ensures { Puts (W.state out.old) (W.state out.new) (body_lines (parts_of options.now (definitions_in model.now)) level
+        (named_pattern model.now.sets model.now.formats pattern.now)) }
+{
+    let format = format_of(model.formats.items(), pattern);
+    let set = set_of(model.sets.items(), model.formats.items(), pattern);
+    write_comment_line(out, level, pattern);
+    write_extract_line(out, level, &options.decode, format, set);
+    write_call_line(out, level, &options.translate, &pattern.name, set);
+}
+
+// How many hexadecimal digits show a word.
+fn hex_digits(width: Width) -> u32
+    ensures { result ≡ hex_length width }
+{
+    width.bits() / 4
+}
+
+fn write_if_line<W: Out>(out: &mut W, width: Width, level: u32, mask: u64, value: u64)
+    ensures { Puts (W.state out.old) (W.state out.new) (if_line width level mask value) }
+{
+    let digits = hex_digits(width);
+    write_parts(
+        out,
+        &[
+            Part::Spaces(level),
+            Part::Text(b"if ((insn & 0x"),
+            Part::Hex {
+                digits,
+                value: mask,
+            },
+            Part::Text(b") == 0x"),
+            Part::Hex { digits, value },
+            Part::Text(b") {\n"),
+        ],
+    );
+}
+
+fn write_close_line<W: Out>(out: &mut W, level: u32)
+    ensures { Puts (W.state out.old) (W.state out.new) (close_line level) }
+{
+    write_parts(out, &[Part::Spaces(level), Part::Text(b"}\n")]);
+}
+
+// The body of a pattern behind its test.
+fn write_guarded_body<W: Out>(out: &mut W, options: &Options, model: &Model, pattern: &Pattern)
+    requires within { AreWithin (definitions_in model.now) }
+    requires pattern { IsPatternWithin model.now.formats pattern.now }
+    ensures { Puts (W.state out.old) (W.state out.new) (test_lines false (parts_of options.now (definitions_in model.now))
+        (named_pattern model.now.sets model.now.formats pattern.now)) }
+{
+    write_if_line(
+        out,
+        options.width,
+        4,
+        pattern.fixed_mask,
+        pattern.fixed_bits,
+    );
+    write_body(out, options, model, 8, pattern);
+    write_close_line(out, 4);
+}
+
+fn write_test<W: Out>(out: &mut W, options: &Options, model: &Model, pattern: &Pattern)
+    requires within { AreWithin (definitions_in model.now) }
+    requires pattern { IsPatternWithin model.now.formats pattern.now }
+    ensures { Puts (W.state out.old) (W.state out.new) (pattern_lines (parts_of options.now (definitions_in model.now))
+        (named_pattern model.now.sets model.now.formats pattern.now)) }
+{
+    if pattern.fixed_mask == 0 {
+        write_body(out, options, model, 4, pattern);
+    } else {
+        write_guarded_body(out, options, model, pattern);
+    }
+}
+
+/// Writes the tests of these patterns of the model.
+#[tactic(auto, using(dt_text::proofs::Putting::puts_nothing))]
+pub fn write_tests<W: Out>(out: &mut W, options: &Options, model: &Model, patterns: &[Pattern])
+    requires within { AreWithin (definitions_in model.now) }
+    requires patterns { All (IsPatternWithin model.now.formats) patterns.now }
+    ensures { Puts (W.state out.old) (W.state out.new) (flat_map
+        (pattern_lines (parts_of options.now (definitions_in model.now)))
+        (map (named_pattern model.now.sets model.now.formats) patterns.now)) }
+{
+    for pattern in patterns {
+        write_test(out, options, model, pattern);
+    }
+}
+
+pub fn write_end<W: Out>(out: &mut W)
+    ensures { Puts (W.state out.old) (W.state out.new) end_lines }
+{
+    write_parts(out, &[Part::Text(b"    return false;\n}\n")]);
+}

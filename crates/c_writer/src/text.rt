@@ -1,0 +1,60 @@
+//! Writes the whole text.
+
+ghost use Rattle.std.specs.Prelude.{◌≡◌, map, IfOk};
+ghost use Rattle.dt_text.specs.Puts.{Puts};
+ghost use Rattle.dt_forms.specs.Models.{definitions_in};
+ghost use Rattle.dt_forms.specs.Options.{IsOptions};
+ghost use Rattle.dt_forms.specs.Sound.{IsSound};
+ghost use Rattle.dt_forms.specs.View.{pattern_seen};
+ghost use Rattle.c_writer.specs.Decoders.{IsDecoder};
+ghost use Rattle.c_writer.specs.Layout.{decoder_lines, layout};
+ghost use Rattle.c_writer.specs.Parts.{named_pattern, parts_of};
+ghost use Rattle.c_writer.specs.Prototypes.{prototype_seen, prototypes};
+ghost use Rattle.c_writer.specs.Within.{AreWithin};
+
+use crate::declarations::{write_extractions, write_head, write_prototypes, write_sets};
+use crate::prototype::{Prototype, prototypes};
+use crate::statements::{write_decoder_head, write_end, write_tests, write_union_where_patterns};
+use dt_forms::{Model, Options};
+use dt_text::{GrowingSink, Out};
+use std::alloc::{AllocError, Global};
+
+/// The C text of a model's decoder, which tries the patterns in their order. The only error is that memory runs out.
+#[tactic(auto, using(crate::proofs::Models::within_sound, crate::proofs::Models::text_decodes))]
+pub fn text(alloc: Global, options: &Options, model: &Model) -> Result<Vec<u8>, AllocError>
+    requires options { IsOptions options.now }
+    requires width { model.now.width ≡ options.now.width }
+    requires sound { IsSound model.now }
+    ensures layout { IfOk result (λ text. text.items ≡ layout (parts_of options.now (definitions_in model.now))) }
+    ensures decoder { IfOk result (λ text. IsDecoder text.items (map pattern_seen model.now.patterns)) }
+{
+    let sets = model.sets.items();
+    let declared = prototypes(alloc, sets, model.formats.items(), model.patterns.items())?;
+    let mut out = GrowingSink::new(alloc);
+    write_text(&mut out, options, model, declared.as_slice());
+    out.into_text()
+}
+
+// Writes the text, where these are the prototypes.
+fn write_text<W: Out>(out: &mut W, options: &Options, model: &Model, declared: &[Prototype])
+    requires within { AreWithin (definitions_in model.now) }
+    requires declared { map prototype_seen declared.now
+        ≡ prototypes (map (named_pattern model.now.sets model.now.formats) model.now.patterns) }
+    ensures { Puts (W.state out.old) (W.state out.new) (layout (parts_of options.now (definitions_in model.now))) }
+{
+    write_head(out);
+    write_sets(out, model.sets.items());
+    write_prototypes(out, options, declared);
+    write_extractions(out, options, model.sets.items(), model.formats.items());
+    write_decoder(out, options, model);
+}
+
+fn write_decoder<W: Out>(out: &mut W, options: &Options, model: &Model)
+    requires { AreWithin (definitions_in model.now) }
+    ensures { Puts (W.state out.old) (W.state out.new) (decoder_lines (parts_of options.now (definitions_in model.now))) }
+{
+    write_decoder_head(out, options);
+    write_union_where_patterns(out, model);
+    write_tests(out, options, model, model.patterns.items());
+    write_end(out);
+}

@@ -1,5 +1,0 @@
-use Rattle.dt_lines.proofs.Numbers.{length-physical_lines}
-use Rattle.dt_lines.proofs.laws.law_physical_lines.Goals as goal
-
-pub returns : goal.returns
-returns c = length-physical_lines

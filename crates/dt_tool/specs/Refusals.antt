@@ -1,0 +1,53 @@
+-- How a refusal names what the inputs break: a fault of a file or a line, or the first knot (docs/COMMANDS.md, "Rules").
+use Rattle.std.specs.Prelude.{ℕ, ◌≡◌, List, Option, Some}
+use Rattle.dt_lines.specs.declared.line.Position.{Position}
+use Rattle.dt_forms.specs.declared.fault.ModelFault.{ModelFault}
+use Rattle.dt_forms.specs.declared.fault.ModelFault.TheVariants as faults
+use Rattle.dt_forms.specs.declared.source.Source.{Source}
+use Rattle.dt_forms.specs.Patterns.{FlatPattern}
+use Rattle.dt_forms.specs.Rules.{Fault}
+use Rattle.dt_forms.specs.View.{IsDetailWithin, fault_seen, text_of_file}
+use Rattle.dt_tree.specs.Refusals.{ShowsFirstKnot}
+use Rattle.dt_tool.specs.Due.{Due, refused}
+use Rattle.dt_tool.specs.Messages as said
+use Rattle.dt_tool.specs.Stops.{Refuses}
+use Rattle.dt_tool.specs.declared.generate.Stop.{Stop}
+use Rattle.dt_tool.specs.declared.generate.Stop.TheVariants as stops
+
+-- the token of a fault's detail lies in its file
+abbrev pub IsFaultWithin : List Source → ModelFault → Type 0
+IsFaultWithin sources (faults.Broken fault) = IsDetailWithin (text_of_file sources fault.file) fault.detail
+IsFaultWithin sources faults.NoMemory = Unit {0}
+
+-- this message is what a stop says, unless memory runs out
+abbrev pub SaysThis : Stop → List ℕ → Type 0
+SaysThis stop message = Refuses stop (λ due. due ≡ refused message)
+
+abbrev pub SaysFault : List (List ℕ) → List Source → ModelFault → Stop → Type 0
+SaysFault names sources (faults.Broken fault) stop =
+    SaysThis stop (said.broken names (fault_seen (text_of_file sources fault.file) fault))
+SaysFault names sources faults.NoMemory stop = stop ≡ stops.NoMemory
+
+-- a text names this fault, which there is
+pub record NamesFault (names : List (List ℕ)) (expected : Option Fault) (text : List ℕ) : Type 0 where
+  pub fault : Fault
+  pub there : expected ≡ Some fault
+  pub shown : text ≡ said.broken names fault
+
+abbrev pub RefusesFault : Stop → List (List ℕ) → Option Fault → Type 0
+RefusesFault stops.Usage names expected = ⊥
+RefusesFault (stops.ReadFault message) names expected = ⊥
+RefusesFault (stops.Refused message) names expected = NamesFault names expected message.items
+RefusesFault stops.NoMemory names expected = Unit {0}
+
+-- a text names the members of the first knot of these patterns, by their positions
+pub record NamesKnot (names texts : List (List ℕ)) (ps : List FlatPattern) (text : List ℕ) : Type 0 where
+  pub positions : List Position
+  pub first : ShowsFirstKnot ps positions
+  pub shown : text ≡ said.overlapping names texts positions
+
+abbrev pub RefusesKnot : Stop → List (List ℕ) → List (List ℕ) → List FlatPattern → Type 0
+RefusesKnot stops.Usage names texts ps = ⊥
+RefusesKnot (stops.ReadFault message) names texts ps = ⊥
+RefusesKnot (stops.Refused message) names texts ps = NamesKnot names texts ps message.items
+RefusesKnot stops.NoMemory names texts ps = Unit {0}
