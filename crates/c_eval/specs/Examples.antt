@@ -34,6 +34,10 @@ nop_test_then rest = then (on_mask 0xffffffff 0 (nop_extraction_then (nop_call_t
 abbrev pub two_tests : Program
 two_tests = nop_program_with (nop_test_then (nop_test_then done))
 
+-- two calls after one extraction
+abbrev pub two_calls : Program
+two_calls = nop_program_with (nop_extraction_then (nop_call_then (nop_call_then done)))
+
 -- a set that none of these programs gives a typedef
 abbrev pub other_set : Name
 other_set = codes "other"

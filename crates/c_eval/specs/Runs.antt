@@ -11,7 +11,8 @@ pub data Ended : Type 0 where
   ended_false : Ended
   stuck : Ended
 
--- where a run stands: the set that is live in the union, the calls made, in order, the number of tests, the host's state
+-- where a run stands: the set that is live in the union, the calls made, in order, the number of tests, and the host's
+-- state
 pub record Standing (S : Type 0) : Type 0 where
   pub live : Option Name
   pub calls : List Call

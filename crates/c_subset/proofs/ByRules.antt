@@ -56,7 +56,7 @@ behind_dash [] ts h e = ap (option_map (λ us. mark 45 ∷ us)) e
 behind_dash (b ∷ bs) ts h e = ap whole (read_ends_dash b bs (λ k. h (of_kind b above k))) ∙ first_token (mark 45) (b ∷ bs) ts e
 
 no_end_rest : (b : ℕ) (bs : List ℕ) → HasNoEnd (b ∷ bs) → HasNoEnd bs
-no_end_rest b bs h front back e = h (b ∷ front) back (ap (λ l. b ∷ l) e)
+no_end_rest b bs h prefix suffix e = h (b ∷ prefix) suffix (ap (λ l. b ∷ l) e)
 
 no_end_as : (b c : ℕ) (bs : List ℕ) → b ≡ c → HasNoEnd (b ∷ bs) → HasNoEnd (c ∷ bs)
 no_end_as b c bs e h = subst (λ x. HasNoEnd (x ∷ bs)) e h

@@ -5,13 +5,13 @@ use Rattle.std.specs.List.{All}
 use Rattle.std.proofs.lemmas.List.Elements.{All-head, All-tail}
 use Rattle.dt_text.specs.Pieces.{Piece, pieces_text}
 use Rattle.c_subset.specs.Tokens.{Token, between, put, and_then, read, whole, tokens_of}
-use Rattle.c_subset.proofs.Seeing.{AllNamed, seen, as_seen, read-append}
+use Rattle.c_subset.proofs.Seeing.{AllNamed, see, as_seen, read-append}
 
 -- the bytes have these tokens, and the last of them has ended
 pub record Lexes (bytes : List ℕ) (ts : List Token) : Type 0 where
   pub tokens : read bytes between ≡ Some (ts, between)
 
-pub line_lexes : (ps : List Piece) (ts : List Token) → AllNamed ps → seen ps between ≡ Some (ts, between) → Lexes (pieces_text ps) ts
+pub line_lexes : (ps : List Piece) (ts : List Token) → AllNamed ps → see ps between ≡ Some (ts, between) → Lexes (pieces_text ps) ts
 line_lexes ps ts named is = record { tokens = as_seen ps between (ts, between) named is }
 
 pub lexes_none : Lexes [] []

@@ -1,6 +1,6 @@
 -- How a text is read piece by piece.
 use Rattle.std.proofs.Common.{◌≡◌, ℕ, zero, suc, List, [], ◌∷◌, ◌++◌, replicate, Option, Some, None, option_map, refl, sym, ap, ◌∙◌, arith, append_assoc, append-nil}
-use Rattle.c_subset.specs.Tokens.{Token, mark, kind, Mode, between, in_word, after_equals, after_dash, after_slash, in_comment, after_star, Read, put, begin, in_word_step, step, read, and_then, ends, whole, tokens_of}
+use Rattle.c_subset.specs.Tokens.{Token, mark, kind, Mode, between, in_word, after_equals, after_dash, after_slash, in_comment, after_star, Read, put, begin, in_word_step, step, read, and_then, ends, whole}
 use Rattle.c_subset.specs.Bytes.{Letters, IsWord}
 use Rattle.dt_text.specs.Pieces.{Piece, text, name, spaces, piece_text, pieces_text}
 use Rattle.c_subset.proofs.Bytes.{letters_first, letters_rest}
@@ -33,9 +33,9 @@ piece_seen (text bs) m = read bs m
 piece_seen (name bs) m = name_seen bs m
 piece_seen (spaces n) m = spaces_seen m
 
-unfoldable pub seen : List Piece → Mode → Option Read
-seen [] m = Some ([], m)
-seen (p ∷ ps) m = and_then (seen ps) (piece_seen p m)
+unfoldable pub see : List Piece → Mode → Option Read
+see [] m = Some ([], m)
+see (p ∷ ps) m = and_then (see ps) (piece_seen p m)
 
 -- what stands first is put before what is read later
 pub put-put : (ts us : List Token) (r : Option Read) → option_map (put ts) (option_map (put us) r) ≡ option_map (put (ts ++ us)) r
@@ -64,10 +64,10 @@ unfolding read
 read-append [] b m = sym (put_none (read b m))
 read-append (x ∷ a) b m = and_then_same (read (a ++ b)) (λ n. and_then (read b) (read a n)) (step m (kind x) x) (read-append a b) ∙ sym (and_then_assoc (read a) (read b) (step m (kind x) x))
 
-pub seen-append : (ps qs : List Piece) (m : Mode) → seen (ps ++ qs) m ≡ and_then (seen qs) (seen ps m)
-unfolding seen
-seen-append [] qs m = sym (put_none (seen qs m))
-seen-append (p ∷ ps) qs m = and_then_same (seen (ps ++ qs)) (λ n. and_then (seen qs) (seen ps n)) (piece_seen p m) (seen-append ps qs) ∙ sym (and_then_assoc (seen ps) (seen qs) (piece_seen p m))
+pub see-append : (ps qs : List Piece) (m : Mode) → see (ps ++ qs) m ≡ and_then (see qs) (see ps m)
+unfolding see
+see-append [] qs m = sym (put_none (see qs m))
+see-append (p ∷ ps) qs m = and_then_same (see (ps ++ qs)) (λ n. and_then (see qs) (see ps n)) (piece_seen p m) (see-append ps qs) ∙ sym (and_then_assoc (see ps) (see qs) (piece_seen p m))
 
 -- the rest of a word, a word, and a name in a comment
 pub rest_of_word : (bs w : List ℕ) → Letters bs → read bs (in_word w) ≡ Some ([], in_word (w ++ bs))
@@ -150,11 +150,11 @@ pub read_parts : (a b : List ℕ) (m : Mode) (s t : Read) → read a m ≡ Some 
 read_parts a b m s t e f = read-append a b m ∙ ap (and_then (read b)) e ∙ ap (option_map (put s.0)) f
 
 -- what pieces are seen as is what their text is read as
-pub as_seen : (ps : List Piece) (m : Mode) (r : Read) → AllNamed ps → seen ps m ≡ Some r → read (pieces_text ps) m ≡ Some r
-unfolding seen pieces_text read
+pub as_seen : (ps : List Piece) (m : Mode) (r : Read) → AllNamed ps → see ps m ≡ Some r → read (pieces_text ps) m ≡ Some r
+unfolding see pieces_text read
 as_seen [] m r h e = e
 as_seen (p ∷ ps) m r h e =
-    let q = parts (seen ps) (piece_seen p m) r e in
+    let q = parts (see ps) (piece_seen p m) r e in
     read_parts (piece_text p) (pieces_text ps) m q.one q.two (piece_as_seen p m q.one h.0 q.one_is) (as_seen ps q.one.1 q.two h.1 q.two_is) ∙ ap Some q.whole
 
 pub put_more : (ts us : List Token) (o : Option (List Token)) → option_map (λ l. (ts ++ us) ++ l) o ≡ option_map (λ l. ts ++ l) (option_map (λ l. us ++ l) o)

@@ -53,8 +53,8 @@ unput r ts e = ap whole (sym (put_none r)) ∙ e
 as_tokens : (text : List ℕ) (ts us : List Token) → ts ≡ us → IsLexed text ts → IsLexed text us
 as_tokens text ts us e l = subst (λ x. IsLexed text x) e l
 
-as_byte : (b c : ℕ) (front text : List ℕ) (ts : List Token) → b ≡ c → IsLexed (front ++ (c ∷ text)) ts → IsLexed (front ++ (b ∷ text)) ts
-as_byte b c front text ts e l = subst (λ x. IsLexed (front ++ (x ∷ text)) ts) (sym e) l
+as_byte : (b c : ℕ) (prefix text : List ℕ) (ts : List Token) → b ≡ c → IsLexed (prefix ++ (c ∷ text)) ts → IsLexed (prefix ++ (b ∷ text)) ts
+as_byte b c prefix text ts e l = subst (λ x. IsLexed (prefix ++ (x ∷ text)) ts) (sym e) l
 
 -- nothing is left
 no_more : Follows []
@@ -141,10 +141,10 @@ first_same : (x y : ℕ) (xs ys : List ℕ) → x ∷ xs ≡ y ∷ ys → (x ≡
 first_same x y xs ys e = ((cc), (cc))
 
 no_end_more : (b : ℕ) (inside : List ℕ) → (b ≡ 42 → ¬ Begins (λ c. c ≡ 47) inside) → HasNoEnd inside → HasNoEnd (b ∷ inside)
-no_end_more b inside apart h [] back e =
-    let q = first_same b 42 inside (47 ∷ back) e in
+no_end_more b inside apart h [] suffix e =
+    let q = first_same b 42 inside (47 ∷ suffix) e in
     apart q.0 (subst (λ x. Begins (λ c. c ≡ 47) x) (sym q.1) refl)
-no_end_more b inside apart h (f ∷ front) back e = h front back (first_same b f inside (front ++ codes "*/" ++ back) e).1
+no_end_more b inside apart h (f ∷ prefix) suffix e = h prefix suffix (first_same b f inside (prefix ++ codes "*/" ++ suffix) e).1
 
 begins-append : (P : ℕ → Type 0) (a b : List ℕ) → Begins P a → Begins P (a ++ b)
 begins-append P [] b h = absurd h
@@ -159,8 +159,8 @@ closes_more b text ts apart c = record {
   lexed = c.lexed;
 }
 
-as_first : (b c : ℕ) (front text : List ℕ) (ts : List Token) → b ≡ c → Closes (front ++ (c ∷ text)) ts → Closes (front ++ (b ∷ text)) ts
-as_first b c front text ts e l = subst (λ x. Closes (front ++ (x ∷ text)) ts) (sym e) l
+as_first : (b c : ℕ) (prefix text : List ℕ) (ts : List Token) → b ≡ c → Closes (prefix ++ (c ∷ text)) ts → Closes (prefix ++ (b ∷ text)) ts
+as_first b c prefix text ts e l = subst (λ x. Closes (prefix ++ (x ∷ text)) ts) (sym e) l
 
 comment_by : (b : ℕ) (bs : List ℕ) (ts : List Token) → Follows bs → whole (read (b ∷ bs) in_comment) ≡ Some ts → (kind b ≡ star) ⊎ (kind b ≡ star → ⊥) → Closes (b ∷ bs) ts
 unfolding read
@@ -170,8 +170,8 @@ comment_by b bs ts f e (inr n) = closes_more b bs ts (λ is. absurd (n (ap kind 
 closes_here : (bs : List ℕ) (ts : List Token) → IsLexed bs ts → Closes (42 ∷ 47 ∷ bs) ts
 closes_here bs ts l = record { inside = []; rest = bs; no_end = nothing_ends; splits = refl; lexed = l } where
   nothing_ends : HasNoEnd []
-  nothing_ends [] back e = cc
-  nothing_ends (f ∷ front) back e = cc
+  nothing_ends [] suffix e = cc
+  nothing_ends (f ∷ prefix) suffix e = cc
 
 star_no_slash : (bs : List ℕ) → ¬ Begins (λ c. c ≡ 47) (42 ∷ bs)
 star_no_slash bs e = omega (arith, e)

@@ -11,14 +11,10 @@ use Rattle.c_subset.proofs.Bytes.{both_true, letters-append, letters-cons}
 use Rattle.dt_values.specs.declared.width.Width.{Width}
 use Rattle.dt_values.specs.declared.width.Width.TheVariants.{W16, W32, W64}
 use Rattle.dt_text.specs.Hexadecimal.{hex}
-use Rattle.c_subset.specs.Programs.{hex_length, word_type}
+use Rattle.c_subset.specs.Programs.{word_type}
 
 pub word-append : (a b : List ℕ) → IsWord a → Letters b → IsWord (a ++ b)
 word-append a b h k = record { some = omega (arith, length-append a b, h.some); letters = letters-append a b h.letters k }
-
--- a name, fixed letters and a name
-pub joined : (a b c : List ℕ) → IsWord a → Letters b → IsWord c → IsWord (a ++ (b ++ c))
-joined a b c h k l = word-append a (b ++ c) h (letters-append b c k l.letters)
 
 -- sixteen digits, one by one
 glyph_letter : (d : ℕ) → d < 16 → IsTrue (is_name_byte (digit_glyph false d))
@@ -81,8 +77,3 @@ pub word_type_is : (w : Width) → IsWord (word_type w)
 word_type_is W16 = record { some = lit< tt; letters = refl }
 word_type_is W32 = record { some = lit< tt; letters = refl }
 word_type_is W64 = record { some = lit< tt; letters = refl }
-
-some_digits : (w : Width) → 0 < hex_length w
-some_digits W16 = lit< tt
-some_digits W32 = lit< tt
-some_digits W64 = lit< tt

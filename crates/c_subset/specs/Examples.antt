@@ -16,7 +16,12 @@ nop_program = record {
   decoder = codes "decode";
   decoder_static = true;
   union_sets = codes "decode0" ∷ [];
-  body = then (on_mask 0xffffffff 0 (then (extract (codes "decode_Fmt_0") (codes "decode0")) (then (call (codes "nop") (codes "decode0")) done))) done;
+  body =
+      then (on_mask 0xffffffff 0
+      (then (extract (codes "decode_Fmt_0") (codes "decode0"))
+      (then (call (codes "nop") (codes "decode0"))
+      done)))
+      done;
 }
 
 abbrev pub nop_text : List ℕ

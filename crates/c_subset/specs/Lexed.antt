@@ -11,16 +11,18 @@ Begins P (byte ∷ text) = P byte
 
 -- no star with a slash behind it is among the bytes
 abbrev pub HasNoEnd : List ℕ → Type 0
-HasNoEnd bytes = (front back : List ℕ) → ¬ (bytes ≡ front ++ codes "*/" ++ back)
+HasNoEnd bytes = (prefix suffix : List ℕ) → ¬ (bytes ≡ prefix ++ codes "*/" ++ suffix)
 
--- Each rule but the first says what stands at the front of a text: white space and comments add no token, all else adds one. 61 is `=`, 45 is `-` and 62 is `>`.
+-- Each rule but the first says what stands at the start of a text: white space and comments add no token, all else
+-- adds one. 61 is `=`, 45 is `-` and 62 is `>`.
 pub data IsLexed : List ℕ → List Token → Type 0 where
   nothing : IsLexed [] []
   white : (byte : ℕ) (text : List ℕ) (tokens : List Token) → IsTrue (is_white byte)
       → IsLexed text tokens → IsLexed (byte ∷ text) tokens
   comment : (inside text : List ℕ) (tokens : List Token) → HasNoEnd inside
       → IsLexed text tokens → IsLexed (codes "/*" ++ inside ++ codes "*/" ++ text) tokens
-  longest_word : (bytes text : List ℕ) (tokens : List Token) → IsWord bytes → ¬ Begins (λ byte. IsTrue (is_name_byte byte)) text
+  longest_word : (bytes text : List ℕ) (tokens : List Token) → IsWord bytes
+      → ¬ Begins (λ byte. IsTrue (is_name_byte byte)) text
       → IsLexed text tokens → IsLexed (bytes ++ text) (word bytes ∷ tokens)
   two_equals : (text : List ℕ) (tokens : List Token)
       → IsLexed text tokens → IsLexed (codes "==" ++ text) (double_equals ∷ tokens)

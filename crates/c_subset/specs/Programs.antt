@@ -114,7 +114,9 @@ set_spelled s = word (codes "typedef") ∷ word (codes "struct") ∷ open_brace 
 
 -- bool P_NAME(DisasContext *ctx, arg_NAME *a);
 abbrev pub prototype_spelled : Name → Name → List Token
-prototype_spelled prefix name = word (codes "bool") ∷ pattern_name prefix name ∷ first_parameter (arg_ name ∷ asterisk ∷ word (codes "a") ∷ close_round ∷ semicolon ∷ [])
+prototype_spelled prefix name =
+    word (codes "bool") ∷ pattern_name prefix name
+    ∷ first_parameter (arg_ name ∷ asterisk ∷ word (codes "a") ∷ close_round ∷ semicolon ∷ [])
 
 -- typedef arg_S arg_NAME; and the prototype, static or not
 abbrev pub pattern_spelled : Prefix → Pattern → List Token
@@ -125,7 +127,9 @@ pattern_spelled prefix p =
 -- static void F_extract_X(DisasContext *ctx, arg_S *a, uintW_t insn) { }
 abbrev pub extract_spelled : Width → Name → Extraction → List Token
 extract_spelled w decoder e =
-    word (codes "static") ∷ word (codes "void") ∷ extract_name decoder e.format ∷ first_parameter (arg_ e.set ∷ asterisk ∷ word (codes "a") ∷ comma ∷ word (word_type w) ∷ word (codes "insn") ∷ close_round ∷ open_brace ∷ close_brace ∷ [])
+    word (codes "static") ∷ word (codes "void") ∷ extract_name decoder e.format
+    ∷ first_parameter (arg_ e.set ∷ asterisk ∷ word (codes "a") ∷ comma
+    ∷ word (word_type w) ∷ word (codes "insn") ∷ close_round ∷ open_brace ∷ close_brace ∷ [])
 
 -- &u.f_S
 abbrev pub live_set : Name → List Token → List Token
@@ -133,15 +137,22 @@ live_set s rest = ampersand ∷ word (codes "u") ∷ dot ∷ f_ s ∷ rest
 
 -- if ((insn & M) == V) {
 abbrev pub if_spelled : Width → ℕ → ℕ → List Token
-if_spelled w m v = word (codes "if") ∷ open_round ∷ open_round ∷ word (codes "insn") ∷ ampersand ∷ hex_word w m ∷ close_round ∷ double_equals ∷ hex_word w v ∷ close_round ∷ open_brace ∷ []
+if_spelled w m v =
+    word (codes "if") ∷ open_round ∷ open_round ∷ word (codes "insn")
+    ∷ ampersand ∷ hex_word w m ∷ close_round
+    ∷ double_equals ∷ hex_word w v ∷ close_round ∷ open_brace ∷ []
 
 -- F_extract_X(ctx, &u.f_S, insn);
 abbrev pub extract_call_spelled : Name → Name → Name → List Token
-extract_call_spelled decoder x s = extract_name decoder x ∷ open_round ∷ word (codes "ctx") ∷ comma ∷ live_set s (comma ∷ word (codes "insn") ∷ close_round ∷ semicolon ∷ [])
+extract_call_spelled decoder x s =
+    extract_name decoder x ∷ open_round ∷ word (codes "ctx") ∷ comma
+    ∷ live_set s (comma ∷ word (codes "insn") ∷ close_round ∷ semicolon ∷ [])
 
 -- if (P_NAME(ctx, &u.f_S)) return true;
 abbrev pub call_spelled : Name → Name → Name → List Token
-call_spelled prefix n s = word (codes "if") ∷ open_round ∷ pattern_name prefix n ∷ open_round ∷ word (codes "ctx") ∷ comma ∷ live_set s (close_round ∷ close_round ∷ word (codes "return") ∷ word (codes "true") ∷ semicolon ∷ [])
+call_spelled prefix n s =
+    word (codes "if") ∷ open_round ∷ pattern_name prefix n ∷ open_round ∷ word (codes "ctx") ∷ comma
+    ∷ live_set s (close_round ∷ close_round ∷ word (codes "return") ∷ word (codes "true") ∷ semicolon ∷ [])
 
 -- statements, of the decoder and the prefix with these names
 abbrev mutual
@@ -161,13 +172,16 @@ union_set_spelled s = arg_ s ∷ f_ s ∷ semicolon ∷ []
 -- union { .. } u; where there is a pattern
 abbrev pub union_spelled : List Pattern → List Name → List Token
 union_spelled [] sets = []
-union_spelled (p ∷ ps) sets = (word (codes "union") ∷ open_brace ∷ []) ++ (flat_map union_set_spelled sets ++ (close_brace ∷ word (codes "u") ∷ semicolon ∷ []))
+union_spelled (p ∷ ps) sets =
+    (word (codes "union") ∷ open_brace ∷ [])
+    ++ (flat_map union_set_spelled sets ++ (close_brace ∷ word (codes "u") ∷ semicolon ∷ []))
 
 -- static bool F(DisasContext *ctx, uintW_t insn) {
 abbrev pub decoder_head_spelled : Width → Name → Bool → List Token
 decoder_head_spelled w decoder is_static =
     static_spelled is_static
-    ++ (word (codes "bool") ∷ word decoder ∷ first_parameter (word (word_type w) ∷ word (codes "insn") ∷ close_round ∷ open_brace ∷ []))
+    ++ (word (codes "bool") ∷ word decoder ∷ first_parameter (word (word_type w)
+    ∷ word (codes "insn") ∷ close_round ∷ open_brace ∷ []))
 
 -- return false; }
 abbrev pub decoder_end_spelled : List Token

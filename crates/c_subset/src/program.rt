@@ -32,7 +32,8 @@ pub enum Stmt {
 /// Statements in order.
 pub type Body = Items<Stmt>;
 
-/// A program of the C subset. The rules that it keeps are `KeepsRules` of specs/Keeps.antt; the type itself allows more.
+/// A program of the C subset. The rules that it keeps are `KeepsRules` of specs/Keeps.antt; the type itself allows
+/// more.
 #[derive(Debug, Drop)]
 pub struct Program {
     /// The width of an instruction word.

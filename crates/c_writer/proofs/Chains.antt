@@ -14,7 +14,7 @@ use Rattle.c_eval.specs.Runs.{Standing, Turn, going, ended, go_on, is_set_declar
 use Rattle.c_writer.specs.Agrees.{ended_with, AgreesWith}
 use Rattle.c_writer.specs.Chain.{body_then, test_then, chain, chain_program}
 use Rattle.c_writer.specs.Parts.{NamedPattern, Parts, patterns_in}
-use Rattle.c_writer.specs.Sound.{IsSoundIn, AreSound}
+use Rattle.c_writer.specs.Sound.{AreSound}
 use Rattle.c_writer.proofs.Declared.{each_declared, text_itself}
 
 -- the program has the pattern with its set and its format, and the pattern fixes bits under its mask alone

@@ -34,11 +34,11 @@ module _ {X : Type 0} (E : X → X → Bool) (laws : IsEquivalence E) where
       by false = refl
 
   -- to insert x and take those equal to n away is to insert x behind n
-  inserted : (x n : X) (fs : List X) (a b : Bool) → E x n ≡ b → list_any (E x) fs ≡ a → n ∷ filter (λ m. not (E m n)) (if a then fs else fs ++ x ∷ []) ≡ (if b || list_any (E x) (filter (λ m. not (E m n)) fs) then n ∷ filter (λ m. not (E m n)) fs else n ∷ (filter (λ m. not (E m n)) fs ++ x ∷ []))
-  inserted x n fs true true e f = refl
-  inserted x n fs false true e f = ap (λ l. n ∷ l) (filter-append (λ m. not (E m n)) fs (x ∷ []) ∙ ap (λ l. filter (λ m. not (E m n)) fs ++ l) (last_kept x n true e) ∙ append-nil _)
-  inserted x n fs true false e f = ap (λ c. if c then n ∷ filter (λ m. not (E m n)) fs else n ∷ (filter (λ m. not (E m n)) fs ++ x ∷ [])) (sym (any_kept x n fs e ∙ f))
-  inserted x n fs false false e f =
+  insert_behind : (x n : X) (fs : List X) (a b : Bool) → E x n ≡ b → list_any (E x) fs ≡ a → n ∷ filter (λ m. not (E m n)) (if a then fs else fs ++ x ∷ []) ≡ (if b || list_any (E x) (filter (λ m. not (E m n)) fs) then n ∷ filter (λ m. not (E m n)) fs else n ∷ (filter (λ m. not (E m n)) fs ++ x ∷ []))
+  insert_behind x n fs true true e f = refl
+  insert_behind x n fs false true e f = ap (λ l. n ∷ l) (filter-append (λ m. not (E m n)) fs (x ∷ []) ∙ ap (λ l. filter (λ m. not (E m n)) fs ++ l) (last_kept x n true e) ∙ append-nil _)
+  insert_behind x n fs true false e f = ap (λ c. if c then n ∷ filter (λ m. not (E m n)) fs else n ∷ (filter (λ m. not (E m n)) fs ++ x ∷ [])) (sym (any_kept x n fs e ∙ f))
+  insert_behind x n fs false false e f =
       ap (λ l. n ∷ l) (filter-append (λ m. not (E m n)) fs (x ∷ []) ∙ ap (λ l. filter (λ m. not (E m n)) fs ++ l) (last_kept x n false e))
       ∙ ap (λ c. if c then n ∷ filter (λ m. not (E m n)) fs else n ∷ (filter (λ m. not (E m n)) fs ++ x ∷ [])) (sym (any_kept x n fs e ∙ f))
 
@@ -58,7 +58,7 @@ firsts_push : (qs : List NamedPattern) (q : NamedPattern) → first_of_each_name
 firsts_push [] q = refl
 firsts_push (r ∷ qs) q =
     ap (λ l. r ∷ filter (has_other_name r) l) (firsts_push qs q)
-    ∙ inserted same_name same_name_laws q r (first_of_each_name qs) (list_any (same_name q) (first_of_each_name qs)) (same_name q r) refl refl
+    ∙ insert_behind same_name same_name_laws q r (first_of_each_name qs) (list_any (same_name q) (first_of_each_name qs)) (same_name q r) refl refl
 
 -- the names of prototypes are those of their patterns
 any_name : (q : NamedPattern) (qs : List NamedPattern) → list_any (pointwise nat_eq q.pattern.name) (map (λ d. d.name) (map prototype_of qs)) ≡ list_any (same_name q) qs

@@ -2,21 +2,20 @@
 use Rattle.std.proofs.Common.{◌≡◌, ℕ, ◌+◌, ◌==◌, List, [], ◌∷◌, ◌++◌, true, false, Bool, Some, refl, arith, map, lit<}
 use Rattle.std.specs.Prelude.{flat_map, filter, codes}
 use Rattle.std.specs.List.{All}
-use Rattle.std.proofs.lemmas.List.Elements.{All-head, All-tail, All-map, All-weaker, All-filter, All-nil, All-cons}
+use Rattle.std.proofs.lemmas.List.Elements.{All-head, All-tail, All-map, All-weaker, All-filter, All-cons}
 use Rattle.dt_values.specs.Names.{IsName}
-use Rattle.dt_values.specs.Widths.{width_bits}
 use Rattle.dt_values.specs.declared.width.Width.{Width}
 use Rattle.dt_values.specs.declared.width.Width.TheVariants.{W16, W32, W64}
 use Rattle.dt_text.specs.Hexadecimal.{hex}
 use Rattle.dt_forms.specs.Patterns.{FlatPattern}
 use Rattle.dt_forms.specs.Sound.{IsSoundPattern}
 use Rattle.c_subset.specs.Bytes.{IsWord}
-use Rattle.c_subset.specs.Tokens.{Token, word, mark, read, tokens_of}
+use Rattle.c_subset.specs.Tokens.{word, mark, read, tokens_of}
 use Rattle.c_subset.specs.Programs as c
 use Rattle.c_subset.specs.Programs.{Name, Extraction, Prefix, extract, call, Stmts, hex_length, word_type, static_spelled, prototype_spelled, set_spelled, pattern_spelled, extract_spelled, if_spelled, stmt_spelled, stmts_spelled, union_set_spelled, union_spelled, prefix_of, decoder_head_spelled, decoder_end_spelled, decoder_spelled, spelling}
 use Rattle.c_subset.specs.Keeps.{PatternNamed, ExtractionNamed}
 use Rattle.c_subset.proofs.Lexing.{Lexes, line_lexes, lexes_none, lexes_append, lexes_each, tokens_from}
-use Rattle.c_subset.proofs.Seeing.{seen}
+use Rattle.c_subset.proofs.Seeing.{see}
 use Rattle.c_subset.proofs.Words.{hex_word_is, decimal_word_is, name_is_word, underscore, word_type_is}
 use Rattle.c_writer.specs.Parts.{NamedPattern, Parts}
 use Rattle.c_writer.specs.Prototypes.{has_other_name, first_of_each_name, prototype_of, prototypes}
@@ -33,24 +32,24 @@ hex_of_width W32 n = hex_word_is 8 n (omega arith)
 hex_of_width W64 n = hex_word_is 16 n (omega arith)
 
 static_lexes : (is_static : Bool) → Lexes (static_text is_static) (static_spelled is_static)
-unfolding seen read
+unfolding see read
 static_lexes true = line_lexes _ _ (tt, tt) refl
 static_lexes false = lexes_none
 
 head_lexes : Lexes head_line []
-unfolding seen read
+unfolding see read
 head_lexes = line_lexes _ _ (tt, tt) refl
 
 set_lexes : (s : Name) → IsName s → Lexes (set_lines s) (set_spelled s)
-unfolding seen read
+unfolding see read
 set_lexes s h = line_lexes _ _ (tt, (name_is_word s h, (tt, tt))) refl
 
 typedef_lexes : (p : c.Pattern) → PatternNamed p → Lexes (typedef_line p) (word (codes "typedef") ∷ c.arg_ p.set ∷ c.arg_ p.name ∷ c.semicolon ∷ [])
-unfolding seen read
+unfolding see read
 typedef_lexes p h = line_lexes _ _ (tt, (name_is_word p.set h.set, (tt, (name_is_word p.name h.name, (tt, tt))))) refl
 
 prototype_lexes : (prefix n : Name) → IsName prefix → IsName n → Lexes (prototype_line prefix n) (prototype_spelled prefix n)
-unfolding seen read
+unfolding see read
 prototype_lexes prefix n h k =
     let w = name_is_word n k in
     line_lexes _ _ (tt, (name_is_word prefix h, (underscore, (w, (tt, (w, (tt, tt))))))) refl
@@ -59,60 +58,60 @@ pattern_lexes : (prefix : Prefix) (p : c.Pattern) → IsName prefix.name → Pat
 pattern_lexes prefix p h k = lexes_append (typedef_lexes p k) (lexes_append (static_lexes prefix.is_static) (prototype_lexes prefix.name p.name h k.name))
 
 extraction_lexes : (w : Width) (decoder : Name) (e : Extraction) → IsName decoder → ExtractionNamed e → Lexes (extraction_lines w decoder e) (extract_spelled w decoder e)
-unfolding seen read
+unfolding see read
 extraction_lexes w decoder e h k =
     line_lexes _ _ (tt, (name_is_word decoder h, (extract_is_word, (name_is_word e.format k.format, (tt, (name_is_word e.set k.set, (tt, (word_type_is w, (tt, tt))))))))) refl
 
 empty_lexes : Lexes empty_line []
-unfolding seen read
+unfolding see read
 empty_lexes = line_lexes _ _ (tt, tt) refl
 
 decoder_lexes : (w : Width) (decoder : Name) → IsName decoder → Lexes (head_of_decoder w decoder) (word (codes "bool") ∷ word decoder ∷ c.first_parameter (word (word_type w) ∷ word (codes "insn") ∷ c.close_round ∷ c.open_brace ∷ []))
-unfolding seen read
+unfolding see read
 decoder_lexes w decoder h = line_lexes _ _ (tt, (name_is_word decoder h, (tt, (word_type_is w, (tt, tt))))) refl
 
 decoder_head_lexes : (w : Width) (decoder : Name) (is_static : Bool) → IsName decoder → Lexes (decoder_head_lines w decoder is_static) (decoder_head_spelled w decoder is_static)
 decoder_head_lexes w decoder is_static h = lexes_append empty_lexes (lexes_append (static_lexes is_static) (decoder_lexes w decoder h))
 
 union_head_lexes : Lexes union_head_line (word (codes "union") ∷ c.open_brace ∷ [])
-unfolding seen read
+unfolding see read
 union_head_lexes = line_lexes _ _ (tt, tt) refl
 
 union_set_lexes : (s : Name) → IsName s → Lexes (union_set_line s) (union_set_spelled s)
-unfolding seen read
+unfolding see read
 union_set_lexes s h = let w = name_is_word s h in line_lexes _ _ (tt, (w, (tt, (w, (tt, tt))))) refl
 
 union_end_lexes : Lexes union_end_lines (c.close_brace ∷ word (codes "u") ∷ c.semicolon ∷ [])
-unfolding seen read
+unfolding see read
 union_end_lexes = line_lexes _ _ (tt, tt) refl
 
 union_lexes : (p : c.Pattern) (ps : List c.Pattern) (sets : List Name) → All IsName sets → Lexes (union_lines sets) (union_spelled (p ∷ ps) sets)
 union_lexes p ps sets h = lexes_append union_head_lexes (lexes_append (lexes_each IsName union_set_line union_set_spelled union_set_lexes sets h) union_end_lexes)
 
 comment_lexes : {width : ℕ} (level : ℕ) (p : FlatPattern) → IsSoundPattern width p → Lexes (comment_line level p) []
-unfolding seen read
+unfolding see read
 comment_lexes level p h = line_lexes _ _ (tt, (tt, (decimal_word_is (p.file + 1) (omega (arith, h.file_below)), (tt, (decimal_word_is p.line (omega (arith, h.line_below)), (tt, tt)))))) refl
 
 extract_line_lexes : (w : Width) (level : ℕ) (decoder prefix format set : Name) → IsName decoder → IsName format → IsName set → Lexes (extract_line level decoder format set) (stmt_spelled w decoder prefix (extract format set))
-unfolding seen read
+unfolding see read
 extract_line_lexes w level decoder prefix format set h k l =
     line_lexes _ _ (tt, (name_is_word decoder h, (extract_is_word, (name_is_word format k, (tt, (name_is_word set l, (tt, tt))))))) refl
 
 call_line_lexes : (w : Width) (level : ℕ) (decoder prefix n set : Name) → IsName prefix → IsName n → IsName set → Lexes (call_line level prefix n set) (stmt_spelled w decoder prefix (call n set))
-unfolding seen read
+unfolding see read
 call_line_lexes w level decoder prefix n set h k l =
     line_lexes _ _ (tt, (tt, (name_is_word prefix h, (underscore, (name_is_word n k, (tt, (name_is_word set l, (tt, tt)))))))) refl
 
 if_line_lexes : (w : Width) (level mask value : ℕ) → Lexes (if_line w level mask value) (if_spelled w mask value)
-unfolding seen read
+unfolding see read
 if_line_lexes w level mask value = line_lexes _ _ (tt, (tt, (hex_of_width w mask, (tt, (hex_of_width w value, (tt, tt)))))) refl
 
 close_line_lexes : (level : ℕ) → Lexes (close_line level) (mark 125 ∷ [])
-unfolding seen read
+unfolding see read
 close_line_lexes level = line_lexes _ _ (tt, (tt, tt)) refl
 
 end_lexes : Lexes end_lines decoder_end_spelled
-unfolding seen read
+unfolding see read
 end_lexes = line_lexes _ _ (tt, tt) refl
 
 body_lexes : (p : Parts) (level : ℕ) (q : NamedPattern) → IsName p.decoder → IsName p.prefix.name → IsSoundIn p q

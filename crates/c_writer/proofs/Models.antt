@@ -20,9 +20,9 @@ use Rattle.dt_forms.specs.Patterns.{FlatPattern}
 use Rattle.dt_forms.specs.Sound.{set_number, IsSound, IsSoundPattern}
 use Rattle.dt_forms.specs.View.{pattern_seen}
 use Rattle.c_subset.specs.Programs.{Name, Extraction}
-use Rattle.c_subset.specs.Keeps.{ExtractionNamed, AllDiffer}
+use Rattle.c_subset.specs.Keeps.{ExtractionNamed}
 use Rattle.dt_match.specs.Hosts.{script}
-use Rattle.c_writer.specs.Parts.{NamedPattern, Parts, set_name, format_name, extraction_of, named_pattern, parts_of, patterns_in}
+use Rattle.c_writer.specs.Parts.{Parts, set_name, format_name, extraction_of, named_pattern, parts_of, patterns_in}
 use Rattle.c_writer.specs.Chain.{chain_program}
 use Rattle.c_writer.specs.Decoders.{IsDecoder}
 use Rattle.c_writer.specs.Layout.{layout}
@@ -59,8 +59,8 @@ module _ (sets : List SetDef) (formats : List Format) where
       ∙ sym (ap (λ (e : Extraction). e.format) (get_or-map (extraction_of sets) formats n no_format (extraction_of sets no_format) below))
 
   -- the extraction of a format is among all extractions
-  extracted : (n : ℕ) → n < length formats → list_any (λ e. is_text (format_name formats n) e.format && is_text (set_name sets (get_or (map (λ f. f.set) formats) n 0)) e.set) (map (extraction_of sets) formats) ≡ true
-  extracted n below =
+  extraction_there : (n : ℕ) → n < length formats → list_any (λ e. is_text (format_name formats n) e.format && is_text (set_name sets (get_or (map (λ f. f.set) formats) n 0)) e.set) (map (extraction_of sets) formats) ≡ true
+  extraction_there n below =
       list_any_at (λ e. is_text (format_name formats n) e.format && is_text (set_name sets (get_or (map (λ f. f.set) formats) n 0)) e.set) (map (extraction_of sets) formats) n (extraction_of sets no_format)
       (subst (λ l. n < l) (sym (length-map formats (extraction_of sets))) below)
       (rw (name_of_format n below, set_of_format n below) (both_themselves (there n).format (there n).set))
@@ -111,7 +111,7 @@ sound_parts options model asked width s = record {
           format_named = at IsName (λ (f : Format). f.name) model.formats p.format [] s.formats_named format;
           set_named = at IsName (λ (d : SetDef). d.name) model.sets (set_number model.formats p) [] s.sets_named set;
           set = set_there model.sets model.formats (set_number model.formats p) set;
-          format = extracted model.sets model.formats p.format format;
+          format = extraction_there model.sets model.formats p.format format;
         }
 
 -- the numbers of a sound model are in range

@@ -1,4 +1,4 @@
--- Which texts decode what a list of patterns says: for every word and script, the calls of trying them one after another.
+-- Which texts decode what a list of patterns says (docs/LANGUAGE.md, "What a decoder does").
 use Rattle.std.specs.Prelude.{◌≡◌, ℕ, Bool, List, [], Option}
 use Rattle.c_subset.specs.Programs.{Program}
 use Rattle.c_subset.specs.Spells.{Spells}

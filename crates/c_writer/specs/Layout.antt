@@ -20,7 +20,8 @@ abbrev pub set_lines : Name → List ℕ
 set_lines s = pieces_text (text (codes "\ntypedef struct {\n} arg_") ∷ name s ∷ text (codes ";\n") ∷ [])
 
 abbrev pub typedef_line : c.Pattern → List ℕ
-typedef_line p = pieces_text (text (codes "\ntypedef arg_") ∷ name p.set ∷ text (codes " arg_") ∷ name p.name ∷ text (codes ";\n") ∷ [])
+typedef_line p =
+    pieces_text (text (codes "\ntypedef arg_") ∷ name p.set ∷ text (codes " arg_") ∷ name p.name ∷ text (codes ";\n") ∷ [])
 
 abbrev pub prototype_line : Name → Name → List ℕ
 prototype_line prefix n =
@@ -52,7 +53,8 @@ abbrev pub union_head_line : List ℕ
 union_head_line = pieces_text (text (codes "    union {\n") ∷ [])
 
 abbrev pub union_set_line : Name → List ℕ
-union_set_line s = pieces_text (text (codes "        arg_") ∷ name s ∷ text (codes " f_") ∷ name s ∷ text (codes ";\n") ∷ [])
+union_set_line s =
+    pieces_text (text (codes "        arg_") ∷ name s ∷ text (codes " f_") ∷ name s ∷ text (codes ";\n") ∷ [])
 
 abbrev pub union_end_lines : List ℕ
 union_end_lines = pieces_text (text (codes "    } u;\n\n") ∷ [])
@@ -68,8 +70,8 @@ union_where_patterns (q ∷ qs) sets = union_lines sets
 -- the file's number, counted from 1, and the line
 abbrev pub comment_line : ℕ → FlatPattern → List ℕ
 comment_line level p =
-    pieces_text (spaces level ∷ text (codes "/* ") ∷ name (decimal (p.file + 1)) ∷ text (codes ":") ∷ name (decimal p.line)
-    ∷ text (codes " */\n") ∷ [])
+    pieces_text (spaces level ∷ text (codes "/* ") ∷ name (decimal (p.file + 1)) ∷ text (codes ":")
+    ∷ name (decimal p.line) ∷ text (codes " */\n") ∷ [])
 
 abbrev pub extract_line : ℕ → Name → Name → Name → List ℕ
 extract_line level decoder format set =

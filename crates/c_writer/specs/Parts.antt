@@ -1,4 +1,4 @@
--- What the C text of a decoder is made of: what the options say, and the sets, formats and patterns of pattern files by their names (docs/C_SUBSET.md, "The text").
+-- What the C text of a decoder is made of: options, and sets, formats and patterns by their names (docs/C_SUBSET.md).
 use Rattle.std.specs.Prelude.{ℕ, Bool, List, [], map, get_or}
 use Rattle.dt_values.specs.declared.width.Width.{Width}
 use Rattle.dt_fields.specs.declared.set.SetDef.{SetDef}

@@ -1,11 +1,10 @@
--- Parts that every sound model gives: names are names, each pattern's set and format are there, and patterns of one name have one set.
-use Rattle.std.specs.Prelude.{◌≡◌, ◌&&◌, IsTrue, List, map, All, AllPairs}
+-- Parts that every sound model gives: names are names, sets and formats are there, and one for each pattern's name.
+use Rattle.std.specs.Prelude.{◌≡◌, ◌&&◌, IsTrue, map, All, AllPairs}
 use Rattle.std.specs.List.{list_any}
 use Rattle.dt_values.specs.Names.{IsName}
 use Rattle.dt_values.specs.Types.{is_text}
 use Rattle.dt_values.specs.Widths.{width_bits}
 use Rattle.dt_forms.specs.Sound.{IsSoundPattern}
-use Rattle.c_subset.specs.Programs.{Name, Extraction}
 use Rattle.c_subset.specs.Keeps.{ExtractionNamed, AllDiffer}
 use Rattle.c_writer.specs.Parts.{NamedPattern, Parts}
 

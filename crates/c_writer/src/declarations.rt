@@ -3,7 +3,8 @@
 ghost use Rattle.std.specs.Prelude.{◌≡◌, flat_map, map};
 ghost use Rattle.dt_text.specs.Puts.{Puts};
 ghost use Rattle.c_subset.specs.Programs.{word_type};
-ghost use Rattle.c_writer.specs.Layout.{extraction_lines, head_line, prototype_line, prototype_lines, set_lines, static_text, typedef_line};
+ghost use Rattle.c_writer.specs.Layout.{extraction_lines, head_line, prototype_line, prototype_lines};
+ghost use Rattle.c_writer.specs.Layout.{set_lines, static_text, typedef_line};
 ghost use Rattle.c_writer.specs.Parts.{extraction_of, prefix_in};
 ghost use Rattle.c_writer.specs.Prototypes.{prototype_seen};
 ghost use Rattle.c_writer.specs.Within.{AreFormsWithin, IsFormatWithin};

@@ -2,7 +2,7 @@
 
 ghost use Rattle.std.specs.Prelude.{ℕ, Bool, List, []};
 ghost use Rattle.c_subset.specs.Spells.{Spells};
-ghost use Rattle.dt_match.specs.Hosts.{Host};
+ghost use Rattle.dt_match.specs.Hosts.{Host, script};
 ghost use Rattle.dt_match.specs.Trial.{trial_of};
 ghost use Rattle.c_eval.specs.Runs.{run_of};
 ghost use Rattle.c_writer.specs.Agrees.{AgreesWith};
@@ -21,3 +21,12 @@ pub fn law_run_is_trial<S>()
     ensures { (host : Host S) (p : Parts) (word : ℕ) (state : S) → AreSound p
         → AgreesWith (trial_of host (patterns_in p) word state) (run_of (chain_program p) [] host word state) }
 {}
+
+/// The same for a script, from its first call on.
+pub fn law_script_run_is_trial()
+    ensures { (outcomes : List Bool) (p : Parts) (word : ℕ) → AreSound p → AgreesWith
+        (trial_of (script outcomes) (patterns_in p) word 0)
+        (run_of (chain_program p) [] (script outcomes) word 0) }
+{
+    law_run_is_trial::<u64>();
+}

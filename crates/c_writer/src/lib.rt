@@ -5,4 +5,6 @@ pub mod declarations;
 pub mod laws;
 pub mod prototype;
 pub mod statements;
+#[cfg(test)]
+mod tests;
 pub mod text;

@@ -4,7 +4,10 @@ ghost use Rattle.std.specs.Prelude.{◌≡◌, false, flat_map, map, All};
 ghost use Rattle.dt_text.specs.Puts.{Puts};
 ghost use Rattle.dt_forms.specs.View.{pattern_seen};
 ghost use Rattle.c_subset.specs.Programs.{hex_length};
-ghost use Rattle.c_writer.specs.Layout.{body_lines, call_line, close_line, comment_line, decoder_head_lines, empty_line, end_lines, extract_line, head_of_decoder, if_line, pattern_lines, test_lines, union_end_lines, union_head_line, union_lines, union_set_line, union_where_patterns};
+ghost use Rattle.c_writer.specs.Layout.{body_lines, call_line, close_line, comment_line, decoder_head_lines};
+ghost use Rattle.c_writer.specs.Layout.{empty_line, end_lines, extract_line, head_of_decoder, if_line};
+ghost use Rattle.c_writer.specs.Layout.{pattern_lines, test_lines, union_end_lines, union_head_line};
+ghost use Rattle.c_writer.specs.Layout.{union_lines, union_set_line, union_where_patterns};
 ghost use Rattle.c_writer.specs.Parts.{format_name, named_pattern, parts_of};
 ghost use Rattle.c_writer.specs.Within.{AreWithin, IsPatternWithin};
 ghost use Rattle.dt_forms.specs.Models.{definitions_in};
@@ -178,7 +181,8 @@ fn format_of<'a>(formats: &'a [Format], pattern: &Pattern) -> &'a Name
 fn write_body<W: Out>(out: &mut W, options: &Options, model: &Model, level: u32, pattern: &Pattern)
     requires within { AreWithin (definitions_in model.now) }
     requires pattern { IsPatternWithin model.now.formats pattern.now }
-    ensures { Puts (W.state out.old) (W.state out.new) (body_lines (parts_of options.now (definitions_in model.now)) level
+    ensures { Puts (W.state out.old) (W.state out.new)
+        (body_lines (parts_of options.now (definitions_in model.now)) level
         (named_pattern model.now.sets model.now.formats pattern.now)) }
 {
     let format = format_of(model.formats.items(), pattern);
@@ -225,7 +229,8 @@ fn write_close_line<W: Out>(out: &mut W, level: u32)
 fn write_guarded_body<W: Out>(out: &mut W, options: &Options, model: &Model, pattern: &Pattern)
     requires within { AreWithin (definitions_in model.now) }
     requires pattern { IsPatternWithin model.now.formats pattern.now }
-    ensures { Puts (W.state out.old) (W.state out.new) (test_lines false (parts_of options.now (definitions_in model.now))
+    ensures { Puts (W.state out.old) (W.state out.new)
+        (test_lines false (parts_of options.now (definitions_in model.now))
         (named_pattern model.now.sets model.now.formats pattern.now)) }
 {
     write_if_line(

@@ -51,7 +51,8 @@ fn write_text<W: Out>(out: &mut W, options: &Options, model: &Model, declared: &
 
 fn write_decoder<W: Out>(out: &mut W, options: &Options, model: &Model)
     requires { AreWithin (definitions_in model.now) }
-    ensures { Puts (W.state out.old) (W.state out.new) (decoder_lines (parts_of options.now (definitions_in model.now))) }
+    ensures { Puts (W.state out.old) (W.state out.new)
+        (decoder_lines (parts_of options.now (definitions_in model.now))) }
 {
     write_decoder_head(out, options);
     write_union_where_patterns(out, model);

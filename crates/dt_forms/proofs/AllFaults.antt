@@ -72,7 +72,3 @@ fault_of_lines width file before [] fault is = absurd (cc)
 fault_of_lines width file before (l ∷ ls) fault is =
     let here : FileLine = in_file file l in
     fault_of_line here (faults_of_line width (scope_before before) l) (faults_from width (before ++ here ∷ []) (map (in_file file) ls)) fault (fault_of_lines width file (before ++ here ∷ []) ls fault) is
-
-pub fault_of_one_file : (width : ℕ) (bytes : List ℕ) (fault : Fault) → first_fault width (bytes ∷ []) ≡ Some fault → fault.file ≡ 0
-fault_of_one_file width bytes fault is =
-    fault_of_lines width 0 [] (logical_lines bytes) fault (sym (ap (λ ls. first (faults_from width [] ls)) (append-nil (map (in_file 0) (logical_lines bytes)))) ∙ is)

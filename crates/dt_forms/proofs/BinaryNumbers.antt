@@ -36,7 +36,7 @@ number_below digits (x ∷ xs) =
     let high : digit_in digits x * 2 ^ length xs ≤ 1 * 2 ^ length xs = mul-le-mul_right (2 ^ length xs) one in
     omega arith
 
--- a front of fewer than 64 digits
+-- a prefix of fewer than 64 digits
 pub bit_bound : (digits : Digits) (bits : List ℕ) (i : ℕ) → i ≤ length bits → i < 64 → number_of (digit_in digits) (take i bits) < 2 ^ 63
 bit_bound digits bits i h k =
     let small : number_of (digit_in digits) (take i bits) < 2 ^ length (take i bits) = number_below digits (take i bits) in

@@ -8,13 +8,13 @@ use Rattle.dt_forms.specs.Reading.{scope_of}
 use Rattle.dt_forms.specs.Rules.{Broken, first, faults_in}
 use Rattle.dt_forms.specs.View.{LineBroken}
 
-pub first_front : (faults more : List Broken) (b : Broken) → first faults ≡ Some b → first (faults ++ more) ≡ Some b
-first_front [] more b h = absurd (cc)
-first_front (f ∷ faults) more b h = h
+pub first_of_prefix : (faults more : List Broken) (b : Broken) → first faults ≡ Some b → first (faults ++ more) ≡ Some b
+first_of_prefix [] more b h = absurd (cc)
+first_of_prefix (f ∷ faults) more b h = h
 
-pub broken_front : (bytes : List ℕ) (fault : LineFault) (faults more : List Broken) → LineBroken bytes fault faults → LineBroken bytes fault (faults ++ more)
-broken_front bytes (line_faults.Broken rule detail) faults more h = record { is_first = first_front faults more _ h.is_first; within = h.within }
-broken_front bytes line_faults.NoMemory faults more h = tt
+pub broken_prefix : (bytes : List ℕ) (fault : LineFault) (faults more : List Broken) → LineBroken bytes fault faults → LineBroken bytes fault (faults ++ more)
+broken_prefix bytes (line_faults.Broken rule detail) faults more h = record { is_first = first_of_prefix faults more _ h.is_first; within = h.within }
+broken_prefix bytes line_faults.NoMemory faults more h = tt
 
 -- a line without tokens
 pub none_without_tokens : (bytes : List ℕ) (width n indent : ℕ) (spans : List Span) → spans ≡ [] → indent ≡ 0 → faults_in width (scope_of n) indent (map (text_at bytes) spans) ≡ []

@@ -23,10 +23,6 @@ is_source file text s lines e f seen places spans files last small = record {
   small = subst (λ (b : List ℕ). length b ≤ LARGEST_FILE) (sym e) small;
 }
 
--- no files are each the source at its place
-pub no_sources : (files : List Source) → files ≡ [] → AreSources files
-no_sources files none place d below = absurd (let e : length files ≡ 0 = ap length none in omega arith)
-
 -- and one file more, as the one behind them
 behind : (files : List Source) (s : Source) → AreSources files → IsSourceAt (length files) s → AreSources (files ++ s ∷ [])
 behind files s all last place d below = elim (cases_lt place (length files)) [

@@ -98,9 +98,6 @@ set_numbers_of : (decode : List ℕ) (width : ℕ) (ps : List FlatPattern) → A
 set_numbers_of decode width [] = All-nil (λ (f : Format). f.set < 0)
 set_numbers_of decode width (p ∷ ps) = All-cons (λ (f : Format). f.set < 1) (first_format decode width) [] (omega arith) (All-nil (λ (f : Format). f.set < 1))
 
-one_format : (decode : List ℕ) (width : ℕ) (p : FlatPattern) (ps : List FlatPattern) → 0 < length (formats_of decode width (p ∷ ps))
-one_format decode width p ps = omega arith
-
 format_numbers_of : (decode : List ℕ) (width : ℕ) (ps : List PatternLine) → All (λ p. p.format < length (formats_of decode width (map pattern_of ps))) (map kept_pattern ps)
 format_numbers_of decode width [] = All-nil (λ (p : Pattern). p.format < 0)
 format_numbers_of decode width (p ∷ ps) = All-map (λ (q : Pattern). q.format < 1) kept_pattern (p ∷ ps) (λ k d h. omega arith)

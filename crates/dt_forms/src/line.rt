@@ -62,7 +62,7 @@ pub fn read_line(
 }
 
 // The pattern of a line whose tokens are a first one and the rest.
-#[tactic(auto, using(crate::proofs::FirstFaults::broken_front))]
+#[tactic(auto, using(crate::proofs::FirstFaults::broken_prefix))]
 fn read_pattern(
     alloc: Global,
     width: Width,

@@ -373,3 +373,22 @@ fn the_first_token_at_a_position(rt: HostRuntime) -> Result<(), Fail> {
     }
     Ok(())
 }
+
+#[test]
+fn faults_say_what_is_wrong(rt: HostRuntime) -> Result<(), Fail> {
+    let alloc = rt.alloc();
+    let broken = ModelFault::Broken(Fault {
+        file: 0,
+        line: 1,
+        rule: Rule::G9,
+        detail: Detail::Number(3),
+    });
+    let table = [
+        (broken, "a pattern file breaks a rule"),
+        (ModelFault::NoMemory, "out of memory"),
+    ];
+    for (fault, text) in table {
+        assert_eq!(rt; format!(in alloc; "{fault}")?.as_str(), text);
+    }
+    Ok(())
+}

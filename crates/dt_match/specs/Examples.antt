@@ -1,5 +1,5 @@
 -- Trials that are written out.
-use Rattle.std.specs.Prelude.{ℕ, Bool, List, [], ◌∷◌, codes}
+use Rattle.std.specs.Prelude.{ℕ, Bool, List, codes}
 use Rattle.dt_forms.specs.Patterns.{FlatPattern}
 use Rattle.dt_match.specs.Hosts.{Call, script}
 use Rattle.dt_match.specs.Trial.{Trial, trial_of}

@@ -1,4 +1,4 @@
--- The translators of a decoder, as what they answer to its calls (docs/devel/decodetree.rst, "Patterns": a translator tells whether it took the instruction).
+-- The translators of a decoder, as what they answer to its calls (docs/devel/decodetree.rst, "Patterns").
 use Rattle.std.specs.Prelude.{ℕ, ◌+◌, ℤ, Bool, true, List, slice_get, unwrap_or}
 
 -- a call: the name of its pattern, and the values that are handed over

@@ -1,4 +1,4 @@
--- What a list of patterns does at a word: the patterns are tried one after another (docs/LANGUAGE.md, "What a decoder does").
+-- What patterns that are tried one after another do at a word (docs/LANGUAGE.md, "What a decoder does").
 use Rattle.std.specs.Prelude.{ℕ, Bool, true, false, List, [], ◌∷◌}
 use Rattle.dt_forms.specs.Patterns.{FlatPattern, matches}
 use Rattle.dt_match.specs.Hosts.{Call, Host}

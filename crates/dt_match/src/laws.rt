@@ -9,6 +9,8 @@ pub fn examples()
     ensures empty { scripted_trial [] [] 0 ≡ trial_with [] false 0 }
     ensures unmatched { scripted_trial (nop ∷ []) [] 1 ≡ trial_with [] false 0 }
     ensures matched { scripted_trial (nop ∷ any ∷ []) [] 0 ≡ trial_with (call_of nop ∷ []) true 1 }
-    ensures after_false { scripted_trial (nop ∷ any ∷ []) (false ∷ []) 0 ≡ trial_with (call_of nop ∷ call_of any ∷ []) true 2 }
-    ensures both_false { scripted_trial (nop ∷ any ∷ []) (false ∷ false ∷ []) 0 ≡ trial_with (call_of nop ∷ call_of any ∷ []) false 2 }
+    ensures after_false { scripted_trial (nop ∷ any ∷ []) (false ∷ []) 0
+        ≡ trial_with (call_of nop ∷ call_of any ∷ []) true 2 }
+    ensures both_false { scripted_trial (nop ∷ any ∷ []) (false ∷ false ∷ []) 0
+        ≡ trial_with (call_of nop ∷ call_of any ∷ []) false 2 }
 {}

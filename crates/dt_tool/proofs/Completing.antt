@@ -1,6 +1,5 @@
 -- The outcome is that of what is due, whatever is shown to be due.
-use Rattle.std.proofs.Common.{◌≡◌, List, ℕ, Option, Some, None, subst, inl, inr, ◌⊎◌, ⊎_elim}
-use Rattle.std.specs.Prelude.{IfSome}
+use Rattle.std.proofs.Common.{◌≡◌, List, ℕ, subst, inl, inr, ◌⊎◌, ⊎_elim}
 use Rattle.dt_io.specs.Files.{Files}
 use Rattle.dt_tool.specs.Due.{Due, written, refused, IsDue}
 use Rattle.dt_tool.specs.Outcomes.{Completes}

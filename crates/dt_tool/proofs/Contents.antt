@@ -1,23 +1,13 @@
 -- What stops a load is due, for the folder's file and for some content of it; what is made of a file is due for it.
-use Rattle.std.proofs.Common.{◌≡◌, ℕ, ◌+◌, ◌<◌, ◌≤◌, List, [], ◌∷◌, length, Option, Some, None, refl, ap, sym, ◌∙◌, subst, arith, replicate, inl, inr}
-use Rattle.std.specs.Prelude.{◌⊎◌, Result, Ok, Err, Vec, All, IfSome, IsErrAnd}
+use Rattle.std.proofs.Common.{◌≡◌, ℕ, ◌+◌, ◌<◌, List, length, Option, Some, None, refl, ap, sym, subst, arith, replicate, inl, inr}
+use Rattle.std.specs.Prelude.{◌⊎◌, Result, Err, Vec, All, IfSome, IsErrAnd}
 use Rattle.std.specs.FinMap as files_by_name
 use Rattle.std.proofs.lemmas.List.{length-replicate}
 use Rattle.std.proofs.lemmas.List.Elements.{All-replicate}
-use Rattle.dt_values.specs.Widths.{width_bits}
 use Rattle.dt_io.specs.Files.{Files, Held, NotHeld}
 use Rattle.dt_io.specs.Folders.{FolderSeen, ReadFailed}
 use Rattle.dt_lines.specs.declared.scan.TheConstants.{LARGEST_FILE}
-use Rattle.dt_forms.specs.FileFaults.{first_broken}
-use Rattle.dt_forms.specs.Models.{Definitions, definitions_of}
-use Rattle.dt_forms.specs.Options.{default_options}
-use Rattle.dt_forms.specs.Patterns.{FlatPattern, flat_list}
-use Rattle.dt_forms.specs.declared.options.Options.{Options}
-use Rattle.dt_tree.specs.Knots.{IsParted}
-use Rattle.dt_tree.specs.Verdicts.{kept}
-use Rattle.c_writer.specs.Layout.{layout}
-use Rattle.c_writer.specs.Parts.{parts_of}
-use Rattle.dt_tool.specs.Due.{missing, refused, written, IsDue, IsDueOf, IsDueOfWords, IsDueOfInput}
+use Rattle.dt_tool.specs.Due.{missing, refused, IsDue, IsDueOf, IsDueOfWords, IsDueOfInput}
 use Rattle.dt_tool.specs.Messages as said
 use Rattle.dt_tool.specs.Stops.{AnswersDue, IsForSome, IsMissing, StopsLoad}
 use Rattle.dt_tool.specs.Words.{file_named}
@@ -92,20 +82,3 @@ stopped_for_some A words file before after (stops.Refused message) named is =
     let size : length long.bytes ≡ LARGEST_FILE + 1 = long.length in
     record { file = file; bytes = long.bytes; are_bytes = long.are_bytes; named = named; due = large_due file long.bytes message.items (omega arith) is.0 }
 stopped_for_some A words file before after stops.NoMemory named is = tt
-
--- what is made of a file's bytes is due for them
-pub made_for_some : {A : Type 0} (words : List (List ℕ)) (file bytes : List ℕ) (result : Result (Vec ℕ A) Stop) → file_named words ≡ Some file → All (λ b. b < 256) bytes → AnswersDue ⊥ result (IsDueOf file bytes) → IsForSome result words
-made_for_some words file bytes (Ok text) named small is = record { file = file; bytes = bytes; are_bytes = small; named = named; due = is }
-made_for_some words file bytes (Err stops.Usage) named small is = tt
-made_for_some words file bytes (Err (stops.ReadFault message)) named small is = tt
-made_for_some words file bytes (Err (stops.Refused message)) named small is = record { file = file; bytes = bytes; are_bytes = small; named = named; due = is }
-made_for_some words file bytes (Err stops.NoMemory) named small is = tt
-
--- the text of a file that is kept is due
-pub text_due : (file bytes text : List ℕ) (options : Options) (ds : Definitions) (ps : List FlatPattern) → length bytes ≤ LARGEST_FILE → first_broken (width_bits default_options.width) (bytes ∷ []) ≡ None
-    → ps ≡ flat_list (bytes ∷ []) → IsParted ps → options ≡ default_options → ds ≡ definitions_of options (bytes ∷ []) → text ≡ layout (parts_of options ds) → IsDueOf file bytes (written text)
-text_due file bytes text options ds ps small none are parted asked made is =
-    let defined : ds ≡ definitions_of default_options (bytes ∷ []) = made ∙ ap (λ (o : Options). definitions_of o (bytes ∷ [])) asked in
-    let same : layout (parts_of default_options (definitions_of default_options (bytes ∷ []))) ≡ text =
-    sym (is ∙ ap (λ (o : Options). layout (parts_of o ds)) asked ∙ ap (λ (d : Definitions). layout (parts_of default_options d)) defined) in
-    inr (small, record { verdict = kept; stands = (none, subst (λ (qs : List FlatPattern). IsParted qs) are parted); due = ap written same })

@@ -1,39 +1,28 @@
 -- A refusal says what is due.
 use Rattle.std.proofs.Common.{◌≡◌, ℕ, ◌≤◌, List, [], ◌∷◌, length, Option, Some, None, refl, ap, sym, ◌∙◌, subst, inr}
-use Rattle.std.specs.Prelude.{Result, Ok, Err, Vec, IfOk, MatchResult, IsErrAnd}
+use Rattle.std.specs.Prelude.{Result, Ok, Err, Vec, IsErrAnd}
 use Rattle.std.specs.Option.{option_map, option_or}
-use Rattle.std.specs.declared.alloc.Global.{Global}
 use Rattle.dt_values.specs.Widths.{width_bits}
 use Rattle.dt_lines.specs.Faults.{FileFault, too_many_lines, long_name, line_fault}
-use Rattle.dt_lines.specs.declared.line.Position.{Position}
 use Rattle.dt_lines.specs.declared.scan.TheConstants.{LARGEST_FILE}
 use Rattle.dt_fields.specs.declared.rule.Detail.{Detail as Made}
 use Rattle.dt_fields.specs.declared.rule.Detail.TheVariants as details
 use Rattle.dt_forms.specs.declared.fault.Fault.{Fault as Reported}
 use Rattle.dt_forms.specs.declared.fault.ModelFault.{ModelFault}
 use Rattle.dt_forms.specs.declared.fault.ModelFault.TheVariants as faults
-use Rattle.dt_forms.specs.declared.source.Source.{Source}
-use Rattle.dt_forms.specs.FileFaults.{fault_in_file, file_fault, fault_of_files, first_broken}
+use Rattle.dt_forms.specs.FileFaults.{fault_in_file, file_fault, first_broken}
 use Rattle.dt_forms.specs.Options.{default_options}
 use Rattle.dt_forms.specs.Patterns.{FlatPattern, flat_list}
 use Rattle.dt_forms.specs.Rules.{Detail, nothing, Fault, first_fault}
-use Rattle.dt_forms.specs.View.{IsDetailWithin, IsReported, FileBroken, ModelBroken, detail_seen, fault_seen, text_of_file}
+use Rattle.dt_forms.specs.View.{IsDetailWithin, FileBroken, detail_seen, fault_seen}
 use Rattle.dt_tree.specs.Refusals.{ShowsFirstKnot}
 use Rattle.dt_tree.specs.Verdicts.{broken, overlapping}
-use Rattle.dt_tool.specs.Due.{Due, refused, IsDueOf}
+use Rattle.dt_tool.specs.Due.{refused, IsDueOf}
 use Rattle.dt_tool.specs.Messages as said
-use Rattle.dt_tool.specs.Refusals.{IsFaultWithin, NamesFault, NamesKnot, RefusesFault, RefusesKnot, SaysFault, SaysThis}
-use Rattle.dt_tool.specs.Stops.{AnswersDue, Refuses}
+use Rattle.dt_tool.specs.Refusals.{RefusesFault, RefusesKnot, SaysFault, SaysThis}
+use Rattle.dt_tool.specs.Stops.{AnswersDue}
 use Rattle.dt_tool.specs.declared.generate.Stop.{Stop}
 use Rattle.dt_tool.specs.declared.generate.Stop.TheVariants as stops
-
--- a message is said, if there is memory for it
-pub says_this : {E : Type 0} (message : Result (Vec ℕ Global) E) (stop : Stop) (text : List ℕ) → IfOk message (λ made. made.items ≡ text)
-    → MatchResult message (λ made. stop ≡ stops.Refused made) (λ _. stop ≡ stops.NoMemory) → SaysThis stop text
-says_this (Ok made) stop text made_is stop_is =
-    let P : Stop → Type 0 = λ s. SaysThis s text in
-    subst P (sym stop_is) (ap refused made_is)
-says_this (Err e) stop text made_is stop_is = let P : Stop → Type 0 = λ s. SaysThis s text in subst P (sym stop_is) tt
 
 -- what is said names a fault that there is
 names_fault : (names : List (List ℕ)) (expected : Option Fault) (fault : Fault) (stop : Stop) → Some fault ≡ expected → SaysThis stop (said.broken names fault) → RefusesFault stop names expected
@@ -48,15 +37,6 @@ names_fault names expected fault stops.NoMemory there says = tt
 -- that memory runs out names none
 no_fault : (names : List (List ℕ)) (expected : Option Fault) (stop : Stop) → stop ≡ stops.NoMemory → RefusesFault stop names expected
 no_fault names expected stop is = let P : Stop → Type 0 = λ s. RefusesFault s names expected in subst P (sym is) tt
-
-pub reported_within : (sources : List Source) (fault : ModelFault) (expected : Option Fault) → ModelBroken sources fault expected → IsFaultWithin sources fault
-reported_within sources (faults.Broken fault) expected h = h.within
-reported_within sources faults.NoMemory expected h = tt
-
--- what is reported of sources is refused
-pub reported_refused : (names : List (List ℕ)) (sources : List Source) (fault : ModelFault) (expected : Option Fault) (stop : Stop) → ModelBroken sources fault expected → SaysFault names sources fault stop → RefusesFault stop names expected
-reported_refused names sources (faults.Broken fault) expected stop h says = names_fault names expected (fault_seen (text_of_file sources fault.file) fault) stop h.same says
-reported_refused names sources faults.NoMemory expected stop h says = no_fault names expected stop says
 
 one_fault : (a b : Fault) → Some a ≡ Some b → a ≡ b
 one_fault a b e = cc
@@ -74,10 +54,6 @@ without_detail bytes (details.Named name) e = absurd (cc)
 without_detail bytes (details.Number n) e = absurd (cc)
 without_detail bytes (details.Mask m) e = absurd (cc)
 
-pub file_within : (bytes : List ℕ) (fault : ModelFault) → FileBroken bytes 0 fault (file_fault 0 bytes) → IsFaultWithin [] fault
-file_within bytes (faults.Broken fault) h = (without_detail bytes fault.detail (has_no_detail bytes fault (line_fault bytes) h.0.same)).0
-file_within bytes faults.NoMemory h = tt
-
 -- a fault of a whole file is refused, without its bytes
 pub file_refused : (names : List (List ℕ)) (bytes : List ℕ) (fault : ModelFault) (stop : Stop) → FileBroken bytes 0 fault (file_fault 0 bytes) → SaysFault names [] fault stop → RefusesFault stop names (file_fault 0 bytes)
 file_refused names bytes (faults.Broken fault) stop h says =
@@ -85,15 +61,6 @@ file_refused names bytes (faults.Broken fault) stop h says =
     let seen : Detail → Fault = λ d. record { file = fault.file; line = fault.line; broken = (fault.rule, d) } in
     names_fault names (file_fault 0 bytes) (fault_seen [] fault) stop (ap (λ (f : Fault). Some f) (ap seen same) ∙ h.0.same) says
 file_refused names bytes faults.NoMemory stop h says = no_fault names (file_fault 0 bytes) stop says
-
--- a message names the members of the first knot, if there is memory
-pub refuses_knot : {E : Type 0} (message : Result (Vec ℕ Global) E) (stop : Stop) (names texts : List (List ℕ)) (ps : List FlatPattern) (positions : List Position) → ShowsFirstKnot ps positions
-    → IfOk message (λ made. made.items ≡ said.overlapping names texts positions)
-    → MatchResult message (λ made. stop ≡ stops.Refused made) (λ _. stop ≡ stops.NoMemory) → RefusesKnot stop names texts ps
-refuses_knot (Ok made) stop names texts ps positions knot made_is stop_is =
-    let P : Stop → Type 0 = λ s. RefusesKnot s names texts ps in
-    subst P (sym stop_is) (record { positions = positions; first = knot; shown = made_is })
-refuses_knot (Err e) stop names texts ps positions knot made_is stop_is = let P : Stop → Type 0 = λ s. RefusesKnot s names texts ps in subst P (sym stop_is) tt
 
 -- what one file breaks first: what the whole file does, else what its lines do
 of_file : (bytes : List ℕ) (found expected : Option Fault) → file_fault 0 bytes ≡ found → option_or (option_or found None) (first_fault (width_bits default_options.width) (bytes ∷ [])) ≡ expected

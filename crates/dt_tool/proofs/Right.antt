@@ -1,14 +1,14 @@
 -- What a run promises where a text is made, and where a refusal is.
-use Rattle.std.proofs.Common.{◌≡◌, ◌≢◌, ℕ, List, [], ◌∷◌, ◌++◌, take, Option, Some, None, refl, ap, sym, subst, arith, inl, inr, append-nil}
+use Rattle.std.proofs.Common.{◌≡◌, ◌≢◌, ℕ, List, [], ◌∷◌, Option, Some, None, refl, ap, sym, subst, arith, inl, inr, append-nil}
 use Rattle.std.specs.Prelude.{◌⊎◌, IfSome, IsSomeAnd}
 use Rattle.dt_io.specs.Bytes.{extend}
 use Rattle.dt_io.specs.Files.{Files}
 use Rattle.dt_io.specs.Folders.{IsOnlyRead}
 use Rattle.dt_io.specs.Sinks.{SinkSeen, IsOnlyWritten, Reports}
-use Rattle.dt_forms.specs.Patterns.{FlatPattern, flat_list}
+use Rattle.dt_forms.specs.Patterns.{flat_list}
 use Rattle.c_writer.specs.Decoders.{IsDecoder, AppendsDecoder}
-use Rattle.dt_tool.specs.Due.{Due, written, refused, CanBeDue, IsDue, input}
-use Rattle.dt_tool.specs.Outcomes.{RunSeen, ChangesOnly, HasCause, IsRight, IsRightForSome, IsRightOver, WritesText, message_for}
+use Rattle.dt_tool.specs.Due.{written, refused, CanBeDue, IsDue, input}
+use Rattle.dt_tool.specs.Outcomes.{RunSeen, IsRight, IsRightOver, WritesText, message_for}
 use Rattle.dt_tool.specs.Words.{file_named}
 use Rattle.dt_tool.specs.declared.status.Outcome.{Outcome}
 use Rattle.dt_tool.specs.declared.status.Outcome.TheVariants as outcomes
@@ -18,13 +18,13 @@ extend_nothing : (known : Option (List ℕ)) → extend known [] ≡ known
 extend_nothing None = refl
 extend_nothing (Some bytes) = ap Some (append-nil bytes)
 
-unchanged : {R : Type 0} (before after : SinkSeen R) → after ≡ before → IsOnlyWritten before after
-unchanged before after same = record { faults = let f = ap (λ (s : SinkSeen _). s.faults) same in omega arith; rest = ap (λ (s : SinkSeen _). s.rest) same }
+only_the_same : {R : Type 0} (before after : SinkSeen R) → after ≡ before → IsOnlyWritten before after
+only_the_same before after same = record { faults = let f = ap (λ (s : SinkSeen _). s.faults) same in omega arith; rest = ap (λ (s : SinkSeen _). s.rest) same }
 
 reports_nothing : {R : Type 0} (before after : SinkSeen R) → after ≡ before → Reports before after []
 reports_nothing before after same =
     let bytes : after.written ≡ extend before.written [] = subst (λ (w : Option (List ℕ)). after.written ≡ w) (sym (extend_nothing before.written)) (ap (λ (s : SinkSeen _). s.written) same) in
-    record { prefix = (0, bytes); all = inl bytes; only = unchanged before after same }
+    record { prefix = (0, bytes); all = inl bytes; only = only_the_same before after same }
 
 -- an outcome of a text that was made is no other
 only_two : (P : Type 0) (outcome other : Outcome) → (outcome ≡ outcomes.Done) ⊎ (outcome ≡ outcomes.WriteFault) → outcomes.Done ≢ other → outcomes.WriteFault ≢ other → outcome ≡ other → P
@@ -100,5 +100,5 @@ module _ {O E : Type 0} (run : RunSeen O E) where
       part = λ fault. absurd (let e : outcomes.Refused ≡ outcomes.WriteFault = subst (λ o. o ≡ outcomes.WriteFault) is fault in cc);
     };
     said = subst (λ o. IfSome (message_for o run.words) (Reports run.err run.err_after)) (sym is) tt;
-    only = record { folder = only; out = unchanged run.out run.out_after same; err = says.only };
+    only = record { folder = only; out = only_the_same run.out run.out_after same; err = says.only };
   }

@@ -1,4 +1,4 @@
--- What is due for words over files, whatever the outside does: the words, the input, its size, then what the file breaks first (docs/COMMANDS.md).
+-- What is due for words over files, whatever the outside does (docs/COMMANDS.md, "Outcomes" and "Rules").
 use Rattle.std.specs.Prelude.{◌≡◌, ◌<◌, ◌≤◌, ◌⊎◌, ℕ, List, [], ◌∷◌, length, All, Option, Some, None, option_and_then}
 use Rattle.std.specs.FinMap as map
 use Rattle.dt_values.specs.Widths.{width_bits}

@@ -53,8 +53,8 @@ name_at names file = get_or names file []
 -- where a rule is broken, and which, with its text
 abbrev pub place_text : List ℕ → List (List ℕ) → Position → Rule → List ℕ
 place_text kind names position broken =
-    pieces_text (text (name_at names position.file) ∷ text (codes ":") ∷ name (decimal position.line) ∷ text (codes ": ")
-    ∷ text kind ∷ text (codes ": ") ∷ text (rule_text broken) ∷ [])
+    pieces_text (text (name_at names position.file) ∷ text (codes ":") ∷ name (decimal position.line)
+    ∷ text (codes ": ") ∷ text kind ∷ text (codes ": ") ∷ text (rule_text broken) ∷ [])
 
 abbrev pub line_end : List ℕ
 line_end = pieces_text (text (codes "\n") ∷ [])

@@ -1,4 +1,4 @@
--- What a run of the tool promises: when each outcome comes, what is written and said, and what stays (docs/COMMANDS.md, "Outcomes").
+-- What a run of the tool promises: each outcome, what is written and said, what stays (docs/COMMANDS.md, "Outcomes").
 use Rattle.std.specs.Prelude.{ℕ, ◌≡◌, ◌⊎◌, ◌↔◌, List, [], ◌∷◌, Option, Some, None, option_map, IfSome, IsSomeAnd}
 use Rattle.dt_io.specs.Bytes.{AppendsPart, extend}
 use Rattle.dt_io.specs.Files.{Files}
@@ -43,7 +43,8 @@ pub record SaysRefusal {R : Type 0} (IsDue : Due → Type 0) (before after : Sin
   pub said : Reports before after text
 
 -- a text was written whole, or a write failed: then a prefix was written, and that is said
-pub record WritesText {O E : Type 0} (text : List ℕ) (outcome : Outcome) (out out_after : SinkSeen O) (err err_after : SinkSeen E) : Type 0 where
+pub record WritesText {O E : Type 0} (text : List ℕ) (outcome : Outcome)
+    (out out_after : SinkSeen O) (err err_after : SinkSeen E) : Type 0 where
   pub either : (outcome ≡ outcomes.Done) ⊎ (outcome ≡ outcomes.WriteFault)
   pub done : outcome ≡ outcomes.Done → out_after.written ≡ extend out.written text
   pub part : outcome ≡ outcomes.WriteFault → AppendsPart out.written out_after.written text

@@ -1,4 +1,4 @@
--- How a refusal names what the inputs break: a fault of a file or a line, or the first knot (docs/COMMANDS.md, "Rules").
+-- How a refusal names what the inputs break: a fault of a file or a line, or a knot (docs/COMMANDS.md, "Rules").
 use Rattle.std.specs.Prelude.{ℕ, ◌≡◌, List, Option, Some}
 use Rattle.dt_lines.specs.declared.line.Position.{Position}
 use Rattle.dt_forms.specs.declared.fault.ModelFault.{ModelFault}
@@ -8,7 +8,7 @@ use Rattle.dt_forms.specs.Patterns.{FlatPattern}
 use Rattle.dt_forms.specs.Rules.{Fault}
 use Rattle.dt_forms.specs.View.{IsDetailWithin, fault_seen, text_of_file}
 use Rattle.dt_tree.specs.Refusals.{ShowsFirstKnot}
-use Rattle.dt_tool.specs.Due.{Due, refused}
+use Rattle.dt_tool.specs.Due.{refused}
 use Rattle.dt_tool.specs.Messages as said
 use Rattle.dt_tool.specs.Stops.{Refuses}
 use Rattle.dt_tool.specs.declared.generate.Stop.{Stop}

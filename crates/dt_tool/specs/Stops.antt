@@ -21,7 +21,8 @@ AnswersDue Failed (Err (stops.ReadFault message)) IsDue = IsMissing IsDue ⊎ Fa
 AnswersDue Failed (Err (stops.Refused message)) IsDue = IsDue (refused message.items)
 AnswersDue Failed (Err stops.NoMemory) IsDue = Unit {0}
 
--- a text, or what is said of a refusal, is due for some content of the file that the words name, also where the folder's files aren't known
+-- a text, or what is said of a refusal, is due for some content of the file that the words name, also where the folder's
+-- files aren't known
 abbrev pub IsForSome : {A : Type 0} → Result (Vec ℕ A) Stop → List (List ℕ) → Type 0
 IsForSome (Ok text) words = CanBeDue words (written text.items)
 IsForSome (Err stops.Usage) words = Unit {0}

@@ -75,9 +75,9 @@ fn load<D: Folder>(alloc: Global, folder: &mut D, file: &str) -> Result<Vec<u8>,
     match read_all(alloc, folder, file, LARGEST_FILE as u64) {
         Ok(bytes) => Ok(bytes),
         Err(LoadFault::Missing | LoadFault::Failed) => {
-            Err(unread(messages::cannot_read(alloc, file)))
+            Err(read_fault(messages::cannot_read(alloc, file)))
         }
-        Err(LoadFault::TooLarge) => Err(refused(messages::too_large(alloc, file))),
+        Err(LoadFault::TooLarge) => Err(refusal(messages::too_large(alloc, file))),
         Err(LoadFault::NoMemory) => Err(Stop::NoMemory),
     }
 }
@@ -130,7 +130,7 @@ fn stop_of(alloc: Global, inputs: Inputs, fault: ModelFault) -> Stop
     ensures { SaysFault (names_seen inputs.entry.names.now) inputs.entry.sources.now fault result }
 {
     match fault {
-        ModelFault::Broken(fault) => refused(messages::broken(alloc, inputs, &fault)),
+        ModelFault::Broken(fault) => refusal(messages::broken(alloc, inputs, &fault)),
         ModelFault::NoMemory => Stop::NoMemory,
     }
 }
@@ -162,7 +162,7 @@ fn refuse_overlaps(alloc: Global, inputs: Inputs, model: &Model) -> Result<(), S
 {
     match Tree::build(alloc, model) {
         Ok(_) => Ok(()),
-        Err(TreeFault::Knot(positions)) => Err(refused(messages::overlapping(
+        Err(TreeFault::Knot(positions)) => Err(refusal(messages::overlapping(
             alloc,
             inputs,
             positions.items(),
@@ -172,7 +172,7 @@ fn refuse_overlaps(alloc: Global, inputs: Inputs, model: &Model) -> Result<(), S
 }
 
 // A refusal, if there is memory for its message.
-fn refused(message: Result<Vec<u8>, AllocError>) -> Stop
+fn refusal(message: Result<Vec<u8>, AllocError>) -> Stop
     ensures { MatchResult message (λ text. result ≡ Stop.Refused text) (λ _. result ≡ Stop.NoMemory) }
 {
     match message {
@@ -182,7 +182,7 @@ fn refused(message: Result<Vec<u8>, AllocError>) -> Stop
 }
 
 // A file that isn't read, if there is memory for its message.
-fn unread(message: Result<Vec<u8>, AllocError>) -> Stop
+fn read_fault(message: Result<Vec<u8>, AllocError>) -> Stop
     ensures { MatchResult message (λ text. result ≡ Stop.ReadFault text) (λ _. result ≡ Stop.NoMemory) }
 {
     match message {

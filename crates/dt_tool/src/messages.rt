@@ -103,7 +103,8 @@ fn write_overlaps<W: Out>(out: &mut W, inputs: Inputs, positions: &[Position])
 fn write_notes<W: Out>(out: &mut W, inputs: Inputs, positions: &[Position])
     requires { AreSources inputs.sources.now }
     ensures { Puts (W.state out.old) (W.state out.new) (flat_map
-        (said.overlap_text (codes "note") (names_seen inputs.entry.names.now) (texts_of inputs.entry.sources.now)) positions.now) }
+        (said.overlap_text (codes "note") (names_seen inputs.entry.names.now) (texts_of inputs.entry.sources.now))
+        positions.now) }
 {
     for position in positions {
         write_overlap(out, b"note", inputs, *position);
@@ -165,7 +166,8 @@ fn write_place<'a, W: Out>(
     position: Position,
     rule: Rule,
 )
-    ensures { Puts (W.state out.old) (W.state out.new) (said.place_text kind.now (names_seen inputs.entry.names.now) position rule) }
+    ensures { Puts (W.state out.old) (W.state out.new)
+        (said.place_text kind.now (names_seen inputs.entry.names.now) position rule) }
 {
     write_parts(
         out,

@@ -15,7 +15,7 @@ pub enum Outcome {
     ReadFault,
     /// A write failed.
     WriteFault,
-    /// Memory was wanting, before anything was written.
+    /// Memory ran out, before anything was written.
     NoMemory,
 }
 

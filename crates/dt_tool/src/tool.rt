@@ -58,7 +58,8 @@ pub fn no_memory<E: Sink>(err: &mut E) -> Status
 // Writes the text, and says where that fails.
 fn write_text<O: Sink, E: Sink>(text: &[u8], out: &mut O, err: &mut E) -> Status
     ensures number { result.number ≡ exit_status result.outcome }
-    ensures writes { WritesText text.now result.outcome (O.seen out.old) (O.seen out.new) (E.seen err.old) (E.seen err.new) }
+    ensures writes { WritesText text.now result.outcome (O.seen out.old) (O.seen out.new)
+        (E.seen err.old) (E.seen err.new) }
     ensures quiet { result.outcome ≡ Outcome.Done → err.new ≡ err.old }
 {
     match write_all(out, text) {

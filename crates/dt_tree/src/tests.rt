@@ -199,3 +199,13 @@ fn many_words(rt: HostRuntime) -> Result<(), Fail> {
     assert!(rt; knot_in(rt.alloc(), rows.as_slice())?.is_none());
     Ok(())
 }
+
+#[test]
+fn faults_say_what_is_wrong(rt: HostRuntime) -> Result<(), Fail> {
+    let alloc = rt.alloc();
+    let knot = TreeFault::Knot(PositionList::of(Vec::new(alloc)));
+    assert_eq!(rt; format!(in alloc; "{knot}")?.as_str(), "patterns overlap");
+    let memory = TreeFault::NoMemory;
+    assert_eq!(rt; format!(in alloc; "{memory}")?.as_str(), "out of memory");
+    Ok(())
+}

@@ -32,7 +32,10 @@ impl Model for Name {
 
     ghost view = { λ s. take s.len s.bytes };
 
-    ghost invariant = { λ s. IsName (take s.len s.bytes) × (length (take s.len s.bytes) ≡ s.len) × (name_array (take s.len s.bytes) ≡ s.bytes) };
+    ghost invariant = { λ s.
+        IsName (take s.len s.bytes)
+        × (length (take s.len s.bytes) ≡ s.len)
+        × (name_array (take s.len s.bytes) ≡ s.bytes) };
 
     ghost inverse = { λ d. record { bytes = name_array d; len = length d } };
 

@@ -1,0 +1,115 @@
+//! How runs end: usage, and files and sinks that fail (docs/COMMANDS.md, "Outcomes").
+use crate::status::{Outcome, Status};
+use crate::tests::runs::{Failing, NOP_LINE, NOP_TEXT, NOTHING_FAILS, run};
+use std::test::Fail;
+
+#[test]
+fn other_words_are_a_usage(rt: HostRuntime) -> Result<(), Fail> {
+    let table: [&[&str]; 8] = [
+        &[],
+        &["gen"],
+        &["gen", "-"],
+        &["gen", "--test-for-error"],
+        &["gen", "t", "t"],
+        &["gen", "-w", "16", "t"],
+        &["Gen", "t"],
+        &["table", "t"],
+    ];
+    for words in table {
+        let ran = run(rt.alloc(), words, b"", 16, NOTHING_FAILS)?;
+        assert_eq!(rt; ran.status, Status::of(Outcome::Usage));
+        assert_eq!(rt; ran.status.number, 2);
+        assert_eq!(rt; ran.err.bytes(), b"usage: N1\n".as_slice());
+        assert_eq!(rt; ran.out.bytes(), b"".as_slice());
+    }
+    Ok(())
+}
+
+#[test]
+fn a_file_that_is_not_there_is_a_read_fault(rt: HostRuntime) -> Result<(), Fail> {
+    let table = [
+        ("s", "error: cannot read s\n"),
+        ("", "error: cannot read \n"),
+        ("a b", "error: cannot read a b\n"),
+    ];
+    for (file, said) in table {
+        let ran = run(rt.alloc(), &["gen", file], b"", 16, NOTHING_FAILS)?;
+        assert_eq!(rt; ran.status.outcome, Outcome::ReadFault);
+        assert_eq!(rt; ran.status.number, 3);
+        assert_eq!(rt; ran.err.bytes(), said.as_bytes());
+        assert_eq!(rt; ran.out.bytes(), b"".as_slice());
+    }
+    Ok(())
+}
+
+#[test]
+fn a_sink_that_fails_holds_a_prefix_of_the_text(rt: HostRuntime) -> Result<(), Fail> {
+    let writes_fail = Failing {
+        writes: &[2],
+        ..NOTHING_FAILS
+    };
+    let ran = run(rt.alloc(), &["gen", "t"], b"", 16, writes_fail)?;
+    assert_eq!(rt; ran.status, Status::of(Outcome::WriteFault));
+    assert_eq!(rt; ran.status.number, 4);
+    assert_eq!(rt; ran.out.bytes(), b"/* Made from pat".as_slice());
+    assert_eq!(rt; ran.err.bytes(), b"error: cannot write\n".as_slice());
+    Ok(())
+}
+
+#[test]
+fn a_failure_of_standard_error_changes_no_status(rt: HostRuntime) -> Result<(), Fail> {
+    let reports_fail = Failing {
+        reports: &[2],
+        ..NOTHING_FAILS
+    };
+    let ran = run(rt.alloc(), &["gen", "t"], b"a\n", 16, reports_fail)?;
+    assert_eq!(rt; ran.status, Status::of(Outcome::Refused));
+    assert_eq!(rt; ran.err.bytes(), b"t:1: error: G9 w".as_slice());
+    Ok(())
+}
+
+/// Read number i fails, for i from 1 up to the first run that meets no failure.
+#[test]
+fn each_read_that_fails_is_a_read_fault(rt: HostRuntime) -> Result<(), Fail> {
+    for call in 1..100 {
+        let failing = [call];
+        let reads_fail = Failing {
+            reads: &failing,
+            ..NOTHING_FAILS
+        };
+        let nop = NOP_LINE.as_bytes();
+        let ran = run(rt.alloc(), &["gen", "t"], nop, 16, reads_fail)?;
+        if ran.status.outcome == Outcome::Done {
+            assert!(rt; call > 1);
+            return Ok(());
+        }
+        assert_eq!(rt; ran.status, Status::of(Outcome::ReadFault));
+        assert_eq!(rt; ran.err.bytes(), b"error: cannot read t\n".as_slice());
+        assert_eq!(rt; ran.out.bytes(), b"".as_slice());
+    }
+    Err("no run was done".into())
+}
+
+/// Write number i fails, for i from 1 up to the first run that meets no failure.
+#[test]
+fn each_write_that_fails_is_a_write_fault(rt: HostRuntime) -> Result<(), Fail> {
+    for call in 1..100 {
+        let failing = [call];
+        let writes_fail = Failing {
+            writes: &failing,
+            ..NOTHING_FAILS
+        };
+        let nop = NOP_LINE.as_bytes();
+        let ran = run(rt.alloc(), &["gen", "t"], nop, 16, writes_fail)?;
+        let kept = (call as usize - 1) * 16;
+        if ran.status.outcome == Outcome::Done {
+            assert!(rt; kept >= NOP_TEXT.len());
+            return Ok(());
+        }
+        assert!(rt; kept < NOP_TEXT.len());
+        assert_eq!(rt; ran.status, Status::of(Outcome::WriteFault));
+        assert_eq!(rt; ran.out.bytes(), &NOP_TEXT.as_bytes()[..kept]);
+        assert_eq!(rt; ran.err.bytes(), b"error: cannot write\n".as_slice());
+    }
+    Err("no run was done".into())
+}
