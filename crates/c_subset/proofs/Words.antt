@@ -6,6 +6,7 @@ use Rattle.std.proofs.lemmas.Bool.Decides.{nat_tests}
 use Rattle.std.specs.Prelude.{IsTrue, nat_lt, nat_le, codes, decimal}
 use Rattle.std.specs.List.{list_all}
 use Rattle.dt_values.specs.Names.{is_name_byte, IsName}
+use Rattle.dt_values.specs.declared.name.TheConstants.{LONGEST_NAME}
 use Rattle.c_subset.specs.Bytes.{Letters, IsWord}
 use Rattle.c_subset.proofs.Bytes.{both_true, letters-append, letters-cons}
 use Rattle.dt_values.specs.declared.width.Width.{Width}
@@ -64,8 +65,8 @@ some_bytes n h = grind (arith, nat_tests)
 
 pub name_is_word : (bytes : List ℕ) → IsName bytes → IsWord bytes
 name_is_word bytes h =
-    let p = both_true (nat_lt 0 (length bytes)) (nat_le (length bytes) 128 && list_all is_name_byte bytes) h in
-    let q = both_true (nat_le (length bytes) 128) (list_all is_name_byte bytes) p.1 in
+    let p = both_true (nat_lt 0 (length bytes)) (nat_le (length bytes) LONGEST_NAME && list_all is_name_byte bytes) h in
+    let q = both_true (nat_le (length bytes) LONGEST_NAME) (list_all is_name_byte bytes) p.1 in
     record { some = some_bytes (length bytes) p.0; letters = q.1 }
 
 -- the fixed parts of words

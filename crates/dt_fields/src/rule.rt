@@ -22,9 +22,9 @@ pub enum Detail {
 /// G of format and pattern lines, H of groups, N of what isn't built. Each says when it is broken.
 #[derive(Clone, Copy, Debug, PartialEq, Eq)]
 pub enum Rule {
-    /// The file has 65,536 lines or more.
+    /// The file has more physical lines than a file may have.
     K1,
-    /// A token holds more than 128 name bytes in a row.
+    /// A token has more name bytes in a row than a name may have.
     K2,
     /// The indentation isn't two for each open group.
     L1,

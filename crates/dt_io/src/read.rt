@@ -83,8 +83,8 @@ fn read_more<D: Folder>(
     Ok(count != 0)
 }
 
-/// The whole file, if it has no more than `limit` bytes. It takes no memory before it knows that,
-/// and makes at most `limit` + 2 reads.
+/// The whole file, if it has no more than `limit` bytes. The count of reads rises by at most
+/// `limit` + 2.
 pub fn read_all<D: Folder>(
     alloc: Global,
     folder: &mut D,

@@ -23,7 +23,7 @@ abbrev pub next_start : List ℕ → List PlacedLine → ℕ
 next_start bytes [] = length bytes + 1
 next_start bytes (l ∷ ls) = line_start bytes l.line
 
--- each line's tokens lie on its own physical lines: behind where it begins, and before the next logical line begins
+-- each line's tokens lie on its own physical lines: from where its first one begins, before the next logical line begins
 abbrev pub LieOnOwnLines : List ℕ → List PlacedLine → Type 0
 LieOnOwnLines bytes [] = Unit {0}
 LieOnOwnLines bytes (l ∷ ls) =

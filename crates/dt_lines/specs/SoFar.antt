@@ -1,4 +1,4 @@
--- What holds of the spans and of the lines that are read so far.
+-- What holds of a physical line, and of the spans and the lines that are read so far.
 use Rattle.std.specs.Prelude.{ℕ, ◌≡◌, ◌<◌, ◌≤◌, false, List, length, slice_index, All}
 use Rattle.std.specs.List.{between}
 use Rattle.dt_lines.specs.Lines.{is_newline}

@@ -22,7 +22,7 @@ pub(crate) struct Gathered {
 }
 
 impl Gathered {
-    // Nothing.
+    // Nothing gathered.
     pub(crate) fn new(alloc: Global) -> Gathered
         ensures { result.tokens.items ≡ [] }
     {
@@ -103,8 +103,8 @@ fn end_or_go_on(
     ensures lines { IfOk result (λ g. EndsOrGoesOn (reading bytes.now lines.old.items gathered)
         (reading bytes.now lines.new.items g)) }
     ensures file { OnOk result (AreLinesOf file (length bytes.now) lines.new.items) }
-    ensures spans { IfOk result (λ g. (place : ℕ) → AreSpansTo (length bytes.now) place gathered.tokens.items
-        → AreSpansTo (length bytes.now) place g.tokens.items) }
+    ensures spans { (place : ℕ) → AreSpansTo (length bytes.now) place gathered.tokens.items
+        → IfOk result (λ g. AreSpansTo (length bytes.now) place g.tokens.items) }
 {
     if ends_in_backslash(bytes, gathered.tokens.as_slice()) {
         return Ok(without_last(gathered));

@@ -19,8 +19,9 @@ pub const LARGEST_FILE: usize = 4_194_304;
 /// The most physical lines that a pattern file may have.
 pub const MOST_LINES: usize = 65_535;
 
-/// The logical lines of a file, in order. The tokens are places in `bytes`. A file with a fault is refused with the
-/// fault of its first line that has one, whether or not there is memory; any other only where memory runs out.
+/// The logical lines of a file, in order. The tokens are the places in `bytes` where they stand. A file with a fault is
+/// refused with the fault of its first line that has one, whether or not there is memory; any other only where memory
+/// runs out.
 pub fn logical(alloc: Global, file: u16, bytes: &[u8]) -> Result<Vec<Logical>, LineFault>
     requires { length bytes.now ≤ LARGEST_FILE }
     ensures lines { IfOk result (λ lines. map (line_seen bytes.now) lines.items ≡ logical_lines bytes.now) }
