@@ -7,19 +7,19 @@ use Rattle.dt_tool.specs.declared.status.Outcome.{Outcome}
 use Rattle.dt_tool.specs.declared.status.Outcome.TheVariants as outcomes
 use Rattle.dt_tool.proofs.OneDue.{one_due}
 
-pub completes : (words : List (List ℕ)) (files : Files) (made : Due) (outcome : Outcome) (ReadFailed WriteFailed : Type 0) → IsDue words files made
-    → Completes made outcome ReadFailed WriteFailed → (what : Due) → IsDue words files what → Completes what outcome ReadFailed WriteFailed
-completes words files made outcome ReadFailed WriteFailed due is = λ what h. subst (λ (d : Due). Completes d outcome ReadFailed WriteFailed) (one_due words files made what due h) is
+pub completes : (words : List (List ℕ)) (files : Files) (made : Due) (outcome : Outcome) (ReadFails WriteFails : Type 0) → IsDue words files made
+    → Completes made outcome ReadFails WriteFails → (what : Due) → IsDue words files what → Completes what outcome ReadFails WriteFails
+completes words files made outcome ReadFails WriteFails due is = λ what h. subst (λ (d : Due). Completes d outcome ReadFails WriteFails) (one_due words files made what due h) is
 
 -- a text that is due was written, or a write failed
-pub completes_written : (words : List (List ℕ)) (files : Files) (text : List ℕ) (outcome : Outcome) (ReadFailed WriteFailed : Type 0) → IsDue words files (written text)
-    → (outcome ≡ outcomes.Done) ⊎ (outcome ≡ outcomes.WriteFault) → (outcome ≡ outcomes.WriteFault → WriteFailed)
-    → (what : Due) → IsDue words files what → Completes what outcome ReadFailed WriteFailed
-completes_written words files text outcome ReadFailed WriteFailed due either cause =
-    completes words files (written text) outcome ReadFailed WriteFailed due
+pub completes_written : (words : List (List ℕ)) (files : Files) (text : List ℕ) (outcome : Outcome) (ReadFails WriteFails : Type 0) → IsDue words files (written text)
+    → (outcome ≡ outcomes.Done) ⊎ (outcome ≡ outcomes.WriteFault) → (outcome ≡ outcomes.WriteFault → WriteFails)
+    → (what : Due) → IsDue words files what → Completes what outcome ReadFails WriteFails
+completes_written words files text outcome ReadFails WriteFails due either cause =
+    completes words files (written text) outcome ReadFails WriteFails due
     (⊎_elim (λ (done : outcome ≡ outcomes.Done). inl done) (λ (fault : outcome ≡ outcomes.WriteFault). inr (inr (inr (cause fault)))) either)
 
 -- a refusal that is due was said
-pub completes_refused : (words : List (List ℕ)) (files : Files) (message : List ℕ) (outcome : Outcome) (ReadFailed WriteFailed : Type 0) → IsDue words files (refused message)
-    → outcome ≡ outcomes.Refused → (what : Due) → IsDue words files what → Completes what outcome ReadFailed WriteFailed
-completes_refused words files message outcome ReadFailed WriteFailed due is = completes words files (refused message) outcome ReadFailed WriteFailed due (inl is)
+pub completes_refused : (words : List (List ℕ)) (files : Files) (message : List ℕ) (outcome : Outcome) (ReadFails WriteFails : Type 0) → IsDue words files (refused message)
+    → outcome ≡ outcomes.Refused → (what : Due) → IsDue words files what → Completes what outcome ReadFails WriteFails
+completes_refused words files message outcome ReadFails WriteFails due is = completes words files (refused message) outcome ReadFails WriteFails due (inl is)

@@ -25,10 +25,10 @@ use Rattle.dt_tool.specs.declared.generate.Stop.{Stop}
 use Rattle.dt_tool.specs.declared.generate.Stop.TheVariants as stops
 
 -- what is said names a fault that there is
-names_fault : (names : List (List ℕ)) (expected : Option Fault) (fault : Fault) (stop : Stop) → Some fault ≡ expected → SaysThis stop (said.broken names fault) → RefusesFault stop names expected
+names_fault : (names : List (List ℕ)) (expected : Option Fault) (fault : Fault) (stop : Stop) → Some fault ≡ expected → SaysThis stop (said.fault_message names fault) → RefusesFault stop names expected
 names_fault names expected fault stops.Usage there says = says
 names_fault names expected fault (stops.ReadFault message) there says = says
-names_fault names expected fault (stops.Refused message) there says = record { fault = fault; there = sym there; shown = same_text message.items (said.broken names fault) says }
+names_fault names expected fault (stops.Refused message) there says = record { fault = fault; there = sym there; shown = same_text message.items (said.fault_message names fault) says }
   where
     same_text : (a b : List ℕ) → refused a ≡ refused b → a ≡ b
     same_text a b e = cc

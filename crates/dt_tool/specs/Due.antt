@@ -25,8 +25,8 @@ text_of texts = layout (parts_of default_options (definitions_of default_options
 
 abbrev pub due_of_verdict : List (List ℕ) → List (List ℕ) → Verdict → Due
 due_of_verdict names texts kept = written (text_of texts)
-due_of_verdict names texts (broken fault) = refused (said.broken names fault)
-due_of_verdict names texts (overlapping positions) = refused (said.overlapping names texts positions)
+due_of_verdict names texts (broken fault) = refused (said.fault_message names fault)
+due_of_verdict names texts (overlapping positions) = refused (said.overlap_message names texts positions)
 
 -- what is due for files of these names and texts
 pub record IsDueOfFiles (names texts : List (List ℕ)) (what : Due) : Type 0 where

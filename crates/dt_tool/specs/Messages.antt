@@ -65,8 +65,8 @@ fault_text kind names fault =
     place_text kind names (record { file = fault.file; line = fault.line }) fault.broken.0
     ++ (detail_text fault.broken.1 ++ line_end)
 
-abbrev pub broken : List (List ℕ) → Fault → List ℕ
-broken names fault = fault_text (codes "error") names fault
+abbrev pub fault_message : List (List ℕ) → Fault → List ℕ
+fault_message names fault = fault_text (codes "error") names fault
 
 -- a line about an overlap at a position: it names the first token of the line there
 abbrev pub overlap_text : List ℕ → List (List ℕ) → List (List ℕ) → Position → List ℕ
@@ -74,7 +74,7 @@ overlap_text kind names texts position =
     place_text kind names position rule.H2 ++ (bytes_text (first_token_at texts position) ++ line_end)
 
 -- the first of them, and a note for each other
-abbrev pub overlapping : List (List ℕ) → List (List ℕ) → List Position → List ℕ
-overlapping names texts [] = []
-overlapping names texts (p ∷ ps) =
+abbrev pub overlap_message : List (List ℕ) → List (List ℕ) → List Position → List ℕ
+overlap_message names texts [] = []
+overlap_message names texts (p ∷ ps) =
     overlap_text (codes "error") names texts p ++ flat_map (overlap_text (codes "note") names texts) ps

@@ -25,21 +25,21 @@ pub record RunSeen (O E : Type 0) : Type 0 where
   pub err_after : SinkSeen E
 
 -- a text that is due came behind what is known, whole
-pub record WritesWhole {R : Type 0} (IsDue : Due → Type 0) (before after : SinkSeen R) : Type 0 where
+pub record WritesWhole {R : Type 0} (Fits : Due → Type 0) (before after : SinkSeen R) : Type 0 where
   pub text : List ℕ
-  pub due : IsDue (written text)
+  pub due : Fits (written text)
   pub whole : after.written ≡ extend before.written text
 
 -- a prefix of such a text did
-pub record WritesPrefix {R : Type 0} (IsDue : Due → Type 0) (before after : SinkSeen R) : Type 0 where
+pub record WritesPrefix {R : Type 0} (Fits : Due → Type 0) (before after : SinkSeen R) : Type 0 where
   pub text : List ℕ
-  pub due : IsDue (written text)
+  pub due : Fits (written text)
   pub prefix : AppendsPart before.written after.written text
 
 -- a refusal that is due was reported
-pub record SaysRefusal {R : Type 0} (IsDue : Due → Type 0) (before after : SinkSeen R) : Type 0 where
+pub record SaysRefusal {R : Type 0} (Fits : Due → Type 0) (before after : SinkSeen R) : Type 0 where
   pub text : List ℕ
-  pub due : IsDue (refused text)
+  pub due : Fits (refused text)
   pub said : Reports before after text
 
 -- a text was written whole, or a write failed: then a prefix was written, and that is said
@@ -55,13 +55,13 @@ pub record WritesText {O E : Type 0} (text : List ℕ) (outcome : Outcome)
 
 -- while memory, reads and writes last, the outcome is that of what is due
 abbrev pub Completes : Due → Outcome → Type 0 → Type 0 → Type 0
-Completes usage outcome ReadFailed WriteFailed = outcome ≡ outcomes.Usage
-Completes (missing file) outcome ReadFailed WriteFailed =
-    (outcome ≡ outcomes.ReadFault) ⊎ ((outcome ≡ outcomes.NoMemory) ⊎ ReadFailed)
-Completes (refused message) outcome ReadFailed WriteFailed =
-    (outcome ≡ outcomes.Refused) ⊎ ((outcome ≡ outcomes.NoMemory) ⊎ ReadFailed)
-Completes (written text) outcome ReadFailed WriteFailed =
-    (outcome ≡ outcomes.Done) ⊎ ((outcome ≡ outcomes.NoMemory) ⊎ (ReadFailed ⊎ WriteFailed))
+Completes usage outcome ReadFails WriteFails = outcome ≡ outcomes.Usage
+Completes (missing file) outcome ReadFails WriteFails =
+    (outcome ≡ outcomes.ReadFault) ⊎ ((outcome ≡ outcomes.NoMemory) ⊎ ReadFails)
+Completes (refused message) outcome ReadFails WriteFails =
+    (outcome ≡ outcomes.Refused) ⊎ ((outcome ≡ outcomes.NoMemory) ⊎ ReadFails)
+Completes (written text) outcome ReadFails WriteFails =
+    (outcome ≡ outcomes.Done) ⊎ ((outcome ≡ outcomes.NoMemory) ⊎ (ReadFails ⊎ WriteFails))
 
 abbrev pub CompletesRun : {O E : Type 0} → RunSeen O E → Due → Type 0
 CompletesRun run what =

@@ -25,14 +25,14 @@ SaysThis stop message = Refuses stop (λ due. due ≡ refused message)
 
 abbrev pub SaysFault : List (List ℕ) → List Source → ModelFault → Stop → Type 0
 SaysFault names sources (faults.Broken fault) stop =
-    SaysThis stop (said.broken names (fault_seen (text_of_file sources fault.file) fault))
+    SaysThis stop (said.fault_message names (fault_seen (text_of_file sources fault.file) fault))
 SaysFault names sources faults.NoMemory stop = stop ≡ stops.NoMemory
 
 -- a text names this fault, which there is
 pub record NamesFault (names : List (List ℕ)) (expected : Option Fault) (text : List ℕ) : Type 0 where
   pub fault : Fault
   pub there : expected ≡ Some fault
-  pub shown : text ≡ said.broken names fault
+  pub shown : text ≡ said.fault_message names fault
 
 abbrev pub RefusesFault : Stop → List (List ℕ) → Option Fault → Type 0
 RefusesFault stops.Usage names expected = ⊥
@@ -44,7 +44,7 @@ RefusesFault stops.NoMemory names expected = Unit {0}
 pub record NamesKnot (names texts : List (List ℕ)) (ps : List FlatPattern) (text : List ℕ) : Type 0 where
   pub positions : List Position
   pub first : ShowsFirstKnot ps positions
-  pub shown : text ≡ said.overlapping names texts positions
+  pub shown : text ≡ said.overlap_message names texts positions
 
 abbrev pub RefusesKnot : Stop → List (List ℕ) → List (List ℕ) → List FlatPattern → Type 0
 RefusesKnot stops.Usage names texts ps = ⊥

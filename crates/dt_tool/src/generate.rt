@@ -30,17 +30,22 @@ use dt_io::{Folder, LoadFault, read_all};
 use dt_lines::LARGEST_FILE;
 use dt_tree::{Tree, TreeFault};
 use std::alloc::{AllocError, Global};
+use thiserror::Error;
 
 /// Why no text is written, with what is said of it.
-#[derive(Debug, Drop)]
+#[derive(Debug, Drop, Error)]
 pub enum Stop {
     /// The words are no command.
+    #[error("the words are no command")]
     Usage,
     /// The file isn't there, or a read of it failed.
+    #[error("an input cannot be read")]
     ReadFault(Vec<u8>),
     /// The file breaks a rule.
+    #[error("an input breaks a rule")]
     Refused(Vec<u8>),
     /// Memory ran out.
+    #[error("out of memory")]
     NoMemory,
 }
 
@@ -130,7 +135,7 @@ fn stop_of(alloc: Global, inputs: Inputs, fault: ModelFault) -> Stop
     ensures { SaysFault (names_seen inputs.entry.names.now) inputs.entry.sources.now fault result }
 {
     match fault {
-        ModelFault::Broken(fault) => refusal(messages::broken(alloc, inputs, &fault)),
+        ModelFault::Broken(fault) => refusal(messages::fault_message(alloc, inputs, &fault)),
         ModelFault::NoMemory => Stop::NoMemory,
     }
 }
@@ -162,7 +167,7 @@ fn refuse_overlaps(alloc: Global, inputs: Inputs, model: &Model) -> Result<(), S
 {
     match Tree::build(alloc, model) {
         Ok(_) => Ok(()),
-        Err(TreeFault::Knot(positions)) => Err(refusal(messages::overlapping(
+        Err(TreeFault::Knot(positions)) => Err(refusal(messages::overlap_message(
             alloc,
             inputs,
             positions.items(),

@@ -60,9 +60,9 @@ fn about_file<'a>(alloc: Global, prefix: &'a [u8], file: &'a str) -> Result<Vec<
 }
 
 /// What is said of a broken rule. A token in its detail is a place in the bytes of its file.
-pub fn broken(alloc: Global, inputs: Inputs, fault: &Fault) -> Result<Vec<u8>, AllocError>
+pub fn fault_message(alloc: Global, inputs: Inputs, fault: &Fault) -> Result<Vec<u8>, AllocError>
     requires { IsDetailWithin (text_of_file inputs.sources.now fault.now.file) fault.now.detail }
-    ensures { IfOk result (λ text. text.items ≡ said.broken (names_seen inputs.entry.names.now)
+    ensures { IfOk result (λ text. text.items ≡ said.fault_message (names_seen inputs.entry.names.now)
         (fault_seen (text_of_file inputs.entry.sources.now fault.now.file) fault.now)) }
 {
     let mut out = GrowingSink::new(alloc);
@@ -71,14 +71,14 @@ pub fn broken(alloc: Global, inputs: Inputs, fault: &Fault) -> Result<Vec<u8>, A
 }
 
 /// What is said of overlaps at these positions: of the first, and a note for each other.
-pub fn overlapping(
+pub fn overlap_message(
     alloc: Global,
     inputs: Inputs,
     positions: &[Position],
 ) -> Result<Vec<u8>, AllocError>
     requires { AreSources inputs.sources.now }
     ensures { IfOk result (λ text. text.items
-        ≡ said.overlapping (names_seen inputs.entry.names.now) (texts_of inputs.entry.sources.now) positions.now) }
+        ≡ said.overlap_message (names_seen inputs.entry.names.now) (texts_of inputs.entry.sources.now) positions.now) }
 {
     let mut out = GrowingSink::new(alloc);
     write_overlaps(&mut out, inputs, positions);
@@ -89,7 +89,7 @@ pub fn overlapping(
 fn write_overlaps<W: Out>(out: &mut W, inputs: Inputs, positions: &[Position])
     requires { AreSources inputs.sources.now }
     ensures { Puts (W.state out.old) (W.state out.new)
-        (said.overlapping (names_seen inputs.entry.names.now) (texts_of inputs.entry.sources.now) positions.now) }
+        (said.overlap_message (names_seen inputs.entry.names.now) (texts_of inputs.entry.sources.now) positions.now) }
 {
     let Some((first, others)) = positions.split_first() else {
         return;

@@ -1,4 +1,5 @@
 //! How runs end: usage, and files and sinks that fail (docs/COMMANDS.md, "Outcomes").
+use crate::generate::Stop;
 use crate::status::{Outcome, Status};
 use crate::tests::runs::{Failing, NOP_LINE, NOP_TEXT, NOTHING_FAILS, run};
 use std::test::Fail;
@@ -112,4 +113,19 @@ fn each_write_that_fails_is_a_write_fault(rt: HostRuntime) -> Result<(), Fail> {
         assert_eq!(rt; ran.err.bytes(), b"error: cannot write\n".as_slice());
     }
     Err("no run was done".into())
+}
+
+#[test]
+fn stops_say_why_there_is_no_text(rt: HostRuntime) -> Result<(), Fail> {
+    let alloc = rt.alloc();
+    let table = [
+        (Stop::Usage, "the words are no command"),
+        (Stop::ReadFault(Vec::new(alloc)), "an input cannot be read"),
+        (Stop::Refused(Vec::new(alloc)), "an input breaks a rule"),
+        (Stop::NoMemory, "out of memory"),
+    ];
+    for (stop, text) in table {
+        assert_eq!(rt; format!(in alloc; "{stop}")?.as_str(), text);
+    }
+    Ok(())
 }
