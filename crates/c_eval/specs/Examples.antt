@@ -1,5 +1,7 @@
 -- Programs whose runs are written out.
-use Rattle.std.specs.Prelude.{ℕ, Bool, List, [], ◌∷◌, codes}
+use Rattle.std.specs.Prelude.{ℕ, Bool, true, false, List, [], ◌∷◌, codes}
+use Rattle.dt_values.specs.declared.ctype.CType.TheVariants.{Int}
+use Rattle.dt_fields.specs.declared.set.SetDef.{SetDef}
 use Rattle.c_subset.specs.Examples.{nop_program}
 use Rattle.c_subset.specs.Programs.{Name, Stmts, on_mask, extract, call, done, then, Program}
 use Rattle.dt_match.specs.Hosts.{Call, script}
@@ -38,22 +40,36 @@ two_tests = nop_program_with (nop_test_then (nop_test_then done))
 abbrev pub two_calls : Program
 two_calls = nop_program_with (nop_extraction_then (nop_call_then (nop_call_then done)))
 
+-- the set of `nop` has an argument, which its extraction doesn't assign
+abbrev pub nop_set_with_argument : SetDef
+nop_set_with_argument = record {
+  name = nop_set;
+  members = record { ctype = Int; name = codes "rd" } ∷ [];
+  outside = false;
+}
+
+abbrev pub argument_program : Program
+argument_program = record nop_program { sets = nop_set_with_argument ∷ [] }
+
 -- a set that none of these programs gives a typedef
-abbrev pub other_set : Name
-other_set = codes "other"
+abbrev pub other_name : Name
+other_name = codes "other"
+
+abbrev pub other_set : SetDef
+other_set = record { name = other_name; members = []; outside = true }
 
 abbrev pub other_extraction : Stmts
-other_extraction = then (extract nop_format other_set) done
+other_extraction = then (extract nop_format other_name) done
 
 -- its one format has that set
 abbrev pub other_program : Program
 other_program = record nop_program {
-  extracts = record { format = nop_format; set = other_set } ∷ [];
+  extracts = record { format = nop_format; set = other_name } ∷ [];
   body = other_extraction;
 }
 
 -- the run at a word with these outcomes, from the first call on
-abbrev pub scripted_run : Program → List Name → List Bool → ℕ → Run ℕ
+abbrev pub scripted_run : Program → List SetDef → List Bool → ℕ → Run ℕ
 scripted_run program outside outcomes word = run_of program outside (script outcomes) word 0
 
 abbrev pub run_with : List Call → Ended → ℕ → ℕ → Run ℕ

@@ -3,7 +3,7 @@
 ghost use Rattle.std.specs.Prelude.{◌≡◌, true, false, [], ◌∷◌};
 ghost use Rattle.c_subset.specs.Examples.{nop_program};
 ghost use Rattle.c_subset.specs.Programs.{done};
-ghost use Rattle.c_eval.specs.Examples.{nop_call, nop_call_then, nop_program_with};
+ghost use Rattle.c_eval.specs.Examples.{argument_program, nop_call, nop_call_then, nop_program_with};
 ghost use Rattle.c_eval.specs.Examples.{other_extraction, other_program, other_set, run_with, scripted_run, two_calls, two_tests};
 ghost use Rattle.c_eval.specs.Runs.{ended_true, ended_false, stuck};
 
@@ -16,6 +16,7 @@ pub fn examples()
         ≡ run_with (nop_call ∷ nop_call ∷ []) ended_true 2 2 }
     ensures no_live_set { scripted_run (nop_program_with (nop_call_then done)) [] [] 0 ≡ run_with [] stuck 0 0 }
     ensures lost_by_call { scripted_run two_calls [] (false ∷ []) 0 ≡ run_with (nop_call ∷ []) stuck 0 1 }
+    ensures lost_argument { scripted_run argument_program [] [] 0 ≡ run_with [] stuck 1 0 }
     ensures set_outside { scripted_run other_program (other_set ∷ []) [] 0 ≡ run_with [] ended_false 0 0 }
     ensures set_undeclared { scripted_run other_program [] [] 0 ≡ run_with [] stuck 0 0 }
     ensures of_another_set { scripted_run (nop_program_with other_extraction) (other_set ∷ []) [] 0

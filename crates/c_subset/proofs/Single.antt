@@ -5,51 +5,20 @@ use Rattle.std.proofs.lemmas.List.{append_cancel_left, append_cancel_right}
 use Rattle.dt_values.specs.declared.width.Width.{Width}
 use Rattle.dt_values.specs.declared.width.Width.TheVariants.{W16, W32, W64}
 use Rattle.dt_values.specs.Widths.{width_bits}
+use Rattle.dt_fields.specs.declared.set.SetDef.{SetDef}
 use Rattle.c_subset.specs.Tokens.{Token, word, mark}
 use Rattle.c_subset.specs.Programs.{Name, Pattern, Extraction, Prefix, Program, set_spelled, pattern_spelled, prototype_spelled, static_spelled, extract_spelled, first_parameter, word_type, stmts_spelled, union_set_spelled, union_spelled, decoder_head_spelled, decoder_end_spelled, decoder_spelled, prefix_of, spelling}
 use Rattle.c_subset.specs.Keeps.{StmtsBelow, KeepsRules}
 use Rattle.c_subset.specs.Spells.{Spells}
 use Rattle.c_subset.proofs.Once.{first_word, differ, stmts_once}
+use Rattle.c_subset.proofs.Parts.{behind_arg, mark_no_word, AllAlike, parts_once, all_same}
+use Rattle.c_subset.proofs.Sets.{AlikeSets, set_once, sets_back}
 
 word_of : (v w : List ℕ) → word v ≡ word w → v ≡ w
 word_of v w e = cc
 
 second : (x y z : Token) (a b : List Token) → z ∷ x ∷ a ≡ z ∷ y ∷ b → x ≡ y
 second x y z a b e = cc
-
-behind_arg : (s t : Name) → codes "arg_" ++ s ≡ codes "arg_" ++ t → s ≡ t
-behind_arg s t e = append_cancel_left (codes "arg_") s t e
-
--- a list of parts, up to what begins like no part
-abbrev pub AllAlike : {A : Type 0} → (A → A → Type 0) → List A → List A → Type 0
-AllAlike R [] [] = Unit {0}
-AllAlike R [] (y ∷ ys) = ⊥
-AllAlike R (x ∷ xs) [] = ⊥
-AllAlike R (x ∷ xs) (y ∷ ys) = R x y × AllAlike R xs ys
-
-parts_once : {A : Type 0} (f g : A → List Token) (R : A → A → Type 0) (one : (x y : A) (a b : List Token) → f x ++ a ≡ g y ++ b → R x y × (a ≡ b)) (xs ys : List A) (a b : List Token) → ((x : A) (c : List Token) → g x ++ c ≡ a → ⊥) → ((x : A) (c : List Token) → f x ++ c ≡ b → ⊥) → flat_map f xs ++ a ≡ flat_map g ys ++ b → AllAlike R xs ys × (a ≡ b)
-parts_once f g R one [] [] a b stop end e = (tt, e)
-parts_once f g R one [] (y ∷ ys) a b stop end e = absurd (stop y (flat_map g ys ++ b) (sym (append_assoc (g y) (flat_map g ys) b) ∙ sym e))
-parts_once f g R one (x ∷ xs) [] a b stop end e = absurd (end x (flat_map f xs ++ a) (sym (append_assoc (f x) (flat_map f xs) a) ∙ e))
-parts_once f g R one (x ∷ xs) (y ∷ ys) a b stop end e =
-    let first = one x y (flat_map f xs ++ a) (flat_map g ys ++ b) (sym (append_assoc (f x) (flat_map f xs) a) ∙ e ∙ append_assoc (g y) (flat_map g ys) b) in
-    let more = parts_once f g R one xs ys a b stop end first.1 in
-    ((first.0, more.0), more.1)
-
-all_same : {A : Type 0} (xs ys : List A) → AllAlike (λ x y. x ≡ y) xs ys → xs ≡ ys
-all_same [] [] h = refl
-all_same [] (y ∷ ys) h = absurd h
-all_same (x ∷ xs) [] h = absurd h
-all_same (x ∷ xs) (y ∷ ys) h = let q = all_same xs ys h.1 in λ i. h.0 i ∷ q i
-
--- a set
-set_tail : (v w : List ℕ) (a b : List Token) → word (codes "typedef") ∷ word (codes "struct") ∷ mark 123 ∷ mark 125 ∷ word v ∷ mark 59 ∷ a ≡ word (codes "typedef") ∷ word (codes "struct") ∷ mark 123 ∷ mark 125 ∷ word w ∷ mark 59 ∷ b → (v ≡ w) × (a ≡ b)
-set_tail v w a b e = ((cc), (cc))
-
-set_once : (s t : Name) (a b : List Token) → set_spelled s ++ a ≡ set_spelled t ++ b → (s ≡ t) × (a ≡ b)
-set_once s t a b e =
-    let q = set_tail (codes "arg_" ++ s) (codes "arg_" ++ t) a b e in
-    (behind_arg s t q.0, q.1)
 
 -- an extraction, where the decoder's names and the widths may still differ
 abbrev pub AlikeExtracts : Name → Name → Extraction → Extraction → Type 0
@@ -106,7 +75,7 @@ void_no_decoder w d false a c e = differ (codes "static") (codes "bool") refl (f
 no_arg_struct : (s : Name) → codes "struct" ≡ codes "arg_" ++ s → ⊥
 no_arg_struct s e = omega (arith, ap (λ l. get_or l 0 0) e)
 
-set_stops : (x : Prefix) (ns : List Pattern) (w : Width) (d : Name) (es : List Extraction) (b : Bool) (a : List Token) (s : Name) (c : List Token) → set_spelled s ++ c ≡ flat_map (pattern_spelled x) ns ++ (flat_map (extract_spelled w d) es ++ (decoder_head_spelled w d b ++ a)) → ⊥
+set_stops : (x : Prefix) (ns : List Pattern) (w : Width) (d : Name) (es : List Extraction) (b : Bool) (a : List Token) (s : SetDef) (c : List Token) → set_spelled s ++ c ≡ flat_map (pattern_spelled x) ns ++ (flat_map (extract_spelled w d) es ++ (decoder_head_spelled w d b ++ a)) → ⊥
 set_stops x [] w d [] b a s c e = typedef_no_decoder w d b a _ e
 set_stops x [] w d (y ∷ es) b a s c e = differ (codes "typedef") (codes "static") refl (first_word _ _ _ _ e)
 set_stops x (n ∷ ns) w d es b a s c e = no_arg_struct n.set (word_of _ _ (second _ _ _ _ _ e))
@@ -148,9 +117,6 @@ head_once v w d e b c x y is =
 -- the union
 part_tail : (v w x y : List ℕ) (a b : List Token) → word v ∷ word w ∷ mark 59 ∷ a ≡ word x ∷ word y ∷ mark 59 ∷ b → (v ≡ x) × (a ≡ b)
 part_tail v w x y a b e = ((cc), (cc))
-
-mark_no_word : (w : List ℕ) (c : ℕ) (a b : List Token) → word w ∷ a ≡ mark c ∷ b → ⊥
-mark_no_word w c a b e = cc
 
 union_tail : (a b : List Token) → word (codes "union") ∷ mark 123 ∷ a ≡ word (codes "union") ∷ mark 123 ∷ b → a ≡ b
 union_tail a b e = cc
@@ -204,7 +170,7 @@ unfolding spelling
 programs_once p q h k is =
     let x = prefix_of p.prefix in
     let y = prefix_of q.prefix in
-    let sets = parts_once set_spelled set_spelled (λ s t. s ≡ t) set_once p.sets q.sets _ _ (set_stops x p.patterns p.width p.decoder p.extracts p.decoder_static _) (set_stops y q.patterns q.width q.decoder q.extracts q.decoder_static _) is in
+    let sets = parts_once set_spelled set_spelled AlikeSets set_once p.sets q.sets _ _ (set_stops x p.patterns p.width p.decoder p.extracts p.decoder_static _) (set_stops y q.patterns q.width q.decoder q.extracts q.decoder_static _) is in
     let patterns = parts_once (pattern_spelled x) (pattern_spelled y) (AlikePatterns x y) (pattern_once x y) p.patterns q.patterns _ _ (pattern_stops p.width p.decoder p.extracts p.decoder_static _ y) (pattern_stops q.width q.decoder q.extracts q.decoder_static _ x) sets.1 in
     let extracts = parts_once (extract_spelled p.width p.decoder) (extract_spelled q.width q.decoder) (AlikeExtracts p.decoder q.decoder) (extract_once p.width q.width p.decoder q.decoder) p.extracts q.extracts (decoder_spelled p) (decoder_spelled q) (extract_stops p.width p.decoder p.decoder_static _ q.width q.decoder) (extract_stops q.width q.decoder q.decoder_static _ p.width p.decoder) patterns.1 in
     let head = head_once p.width q.width p.decoder q.decoder p.decoder_static q.decoder_static _ _ extracts.1 in
@@ -218,7 +184,7 @@ programs_once p q h k is =
     ∙ union.1 in
     let below = subst (λ w. StmtsBelow (2 ^ width_bits w) p.body) head.width h.body_below in
     let body = stmts_once q.width q.decoder y.name p.body q.body decoder_end_spelled decoder_end_spelled below k.body_below refl refl bodies in
-    let set_list = all_same p.sets q.sets sets.0 in
+    let set_list = sets_back p.sets q.sets h.sets_keep k.sets_keep sets.0 in
     let extract_list = extracts_back p.decoder q.decoder p.extracts q.extracts head.decoder extracts.0 in
     let union_list = union_back p.patterns p.union_sets q.union_sets union.0 h.union_with_patterns (λ e. k.union_with_patterns (sym same_patterns ∙ e)) in
     λ i. record { width = head.width i; sets = set_list i; prefix = prefix i; patterns = same_patterns i; extracts = extract_list i; decoder = head.decoder i; decoder_static = head.is_static i; union_sets = union_list i; body = body.same i }

@@ -9,10 +9,14 @@ use Rattle.dt_values.specs.Names.{is_name_byte, IsName}
 use Rattle.dt_values.specs.declared.name.TheConstants.{LONGEST_NAME}
 use Rattle.c_subset.specs.Bytes.{Letters, IsWord}
 use Rattle.c_subset.proofs.Bytes.{both_true, letters-append, letters-cons}
+use Rattle.dt_values.specs.Types.{type_name}
+use Rattle.dt_values.specs.declared.ctype.CType.{CType}
+use Rattle.dt_values.specs.declared.ctype.CType.TheVariants.{Int, I8, I16, I32, I64, U8, U16, U32, U64, Other}
 use Rattle.dt_values.specs.declared.width.Width.{Width}
 use Rattle.dt_values.specs.declared.width.Width.TheVariants.{W16, W32, W64}
 use Rattle.dt_text.specs.Hexadecimal.{hex}
 use Rattle.c_subset.specs.Programs.{word_type}
+use Rattle.c_subset.specs.Keeps.{IsTypeKept}
 
 pub word-append : (a b : List ℕ) → IsWord a → Letters b → IsWord (a ++ b)
 word-append a b h k = record { some = omega (arith, length-append a b, h.some); letters = letters-append a b h.letters k }
@@ -68,6 +72,18 @@ name_is_word bytes h =
     let p = both_true (nat_lt 0 (length bytes)) (nat_le (length bytes) LONGEST_NAME && list_all is_name_byte bytes) h in
     let q = both_true (nat_le (length bytes) LONGEST_NAME) (list_all is_name_byte bytes) p.1 in
     record { some = some_bytes (length bytes) p.0; letters = q.1 }
+
+pub type_name_is_word : (t : CType) → IsTypeKept t → IsWord (type_name t)
+type_name_is_word Int h = record { some = lit< tt; letters = refl }
+type_name_is_word I8 h = record { some = lit< tt; letters = refl }
+type_name_is_word I16 h = record { some = lit< tt; letters = refl }
+type_name_is_word I32 h = record { some = lit< tt; letters = refl }
+type_name_is_word I64 h = record { some = lit< tt; letters = refl }
+type_name_is_word U8 h = record { some = lit< tt; letters = refl }
+type_name_is_word U16 h = record { some = lit< tt; letters = refl }
+type_name_is_word U32 h = record { some = lit< tt; letters = refl }
+type_name_is_word U64 h = record { some = lit< tt; letters = refl }
+type_name_is_word (Other name) h = name_is_word name h.0
 
 -- the fixed parts of words
 pub underscore : IsWord (codes "_")

@@ -1,9 +1,31 @@
 -- The rules that each program of the C subset keeps (the C subset, docs/C_SUBSET.md).
-use Rattle.std.specs.Prelude.{◌≡◌, ◌≢◌, ◌↔◌, ℕ, ◌<◌, ◌^◌, List, [], map, IsSome, IfSome}
+use Rattle.std.specs.Prelude.{◌≡◌, ◌≢◌, ◌↔◌, ℕ, ◌<◌, ◌≤◌, ◌^◌, false, List, [], map, length, IsSome, IfSome}
 use Rattle.std.specs.List.{All, AllPairs}
 use Rattle.dt_values.specs.Names.{IsName}
 use Rattle.dt_values.specs.Widths.{width_bits}
+use Rattle.dt_values.specs.Types.{type_of}
+use Rattle.dt_values.specs.declared.ctype.CType.{CType}
+use Rattle.dt_values.specs.declared.ctype.CType.TheVariants.{Other}
+use Rattle.dt_fields.specs.declared.set.SetDef.{SetDef}
+use Rattle.dt_fields.specs.declared.set.TheConstants.{MOST_ARGUMENTS}
 use Rattle.c_subset.specs.Programs.{Name, Stmt, on_mask, extract, call, Stmts, done, then, Pattern, Extraction, Program}
+
+abbrev pub AllDiffer : List Name → Type 0
+AllDiffer names = AllPairs (λ x y. x ≢ y) names
+
+-- any name but `int` and the eight of fixed size, which are types of their own
+abbrev pub IsTypeKept : CType → Type 0
+IsTypeKept (Other name) = IsName name × (type_of name ≡ Other name)
+IsTypeKept known = Unit {0}
+
+-- a set that the text declares, and its arguments
+pub record SetKeeps (s : SetDef) : Type 0 where
+  pub named : IsName s.name
+  pub inside : s.outside ≡ false
+  pub few : length s.members ≤ MOST_ARGUMENTS
+  pub arguments_named : All (λ m. IsName m.name) s.members
+  pub arguments_differ : AllDiffer (map (λ m. m.name) s.members)
+  pub types : All (λ m. IsTypeKept m.ctype) s.members
 
 pub record PatternNamed (p : Pattern) : Type 0 where
   pub name : IsName p.name
@@ -46,12 +68,9 @@ abbrev mutual
   HaveNoCall done = Unit {0}
   HaveNoCall (then s ss) = HasNoCall s × HaveNoCall ss
 
-abbrev pub AllDiffer : List Name → Type 0
-AllDiffer names = AllPairs (λ x y. x ≢ y) names
-
 pub record KeepsRules (p : Program) : Type 0 where
-  pub sets_named : All IsName p.sets
-  pub sets_differ : AllDiffer p.sets
+  pub sets_keep : All SetKeeps p.sets
+  pub sets_differ : AllDiffer (map (λ s. s.name) p.sets)
   pub prefix_with_patterns : IsSome p.prefix ↔ (p.patterns ≢ [])
   pub prefix_named : IfSome p.prefix (λ prefix. IsName prefix.name)
   pub patterns_named : All PatternNamed p.patterns

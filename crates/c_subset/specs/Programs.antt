@@ -3,6 +3,9 @@ use Rattle.std.specs.Prelude.{ℕ, ◌/◌, Bool, true, false, List, [], ◌∷�
 use Rattle.dt_values.specs.declared.width.Width.{Width}
 use Rattle.dt_values.specs.declared.width.Width.TheVariants.{W16, W32, W64}
 use Rattle.dt_values.specs.Widths.{width_bits}
+use Rattle.dt_values.specs.Types.{type_name}
+use Rattle.dt_values.specs.declared.ctype.Member.{Member}
+use Rattle.dt_fields.specs.declared.set.SetDef.{SetDef}
 use Rattle.dt_text.specs.Hexadecimal.{hex}
 use Rattle.c_subset.specs.Tokens.{Token, word, mark, double_equals}
 
@@ -66,7 +69,7 @@ pub record Prefix : Type 0 where
 
 pub record Program : Type 0 where
   pub width : Width
-  pub sets : List Name
+  pub sets : List SetDef
   pub prefix : Option Prefix
   pub patterns : List Pattern
   pub extracts : List Extraction
@@ -108,9 +111,15 @@ static_spelled false = []
 abbrev pub first_parameter : List Token → List Token
 first_parameter rest = open_round ∷ word (codes "DisasContext") ∷ asterisk ∷ word (codes "ctx") ∷ comma ∷ rest
 
--- typedef struct { } arg_S;
-abbrev pub set_spelled : Name → List Token
-set_spelled s = word (codes "typedef") ∷ word (codes "struct") ∷ open_brace ∷ close_brace ∷ arg_ s ∷ semicolon ∷ []
+-- TYPE NAME;
+abbrev pub member_spelled : Member → List Token
+member_spelled m = word (type_name m.ctype) ∷ word m.name ∷ semicolon ∷ []
+
+-- typedef struct { .. } arg_S; with the arguments between the braces
+abbrev pub set_spelled : SetDef → List Token
+set_spelled s =
+    (word (codes "typedef") ∷ word (codes "struct") ∷ open_brace ∷ [])
+    ++ (flat_map member_spelled s.members ++ (close_brace ∷ arg_ s.name ∷ semicolon ∷ []))
 
 -- bool P_NAME(DisasContext *ctx, arg_NAME *a);
 abbrev pub prototype_spelled : Name → Name → List Token

@@ -5,7 +5,7 @@ ghost use Rattle.c_subset.specs.Tokens.{Token, tokens_of};
 ghost use Rattle.c_subset.specs.Lexed.{IsLexed};
 ghost use Rattle.c_subset.specs.Programs.{Program};
 ghost use Rattle.c_subset.specs.Spells.{Spells};
-ghost use Rattle.c_subset.specs.Examples.{Nop, Empty, TokenExamples};
+ghost use Rattle.c_subset.specs.Examples.{Nop, Empty, Arguments, TokenExamples};
 
 /// The tokens that are read of a text are those that the lexical rules give it.
 pub fn law_text_is_lexed()
@@ -23,4 +23,5 @@ pub fn examples()
     ensures tokens { TokenExamples }
     ensures empty { Empty }
     ensures nop { Nop }
+    ensures arguments { Arguments }
 {}

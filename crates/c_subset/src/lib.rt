@@ -4,7 +4,7 @@
 pub mod laws;
 pub mod program;
 
-pub use program::{Body, Extract, ExtractList, NameList, PatternList, Program, Stmt};
+pub use program::{Body, Extract, ExtractList, NameList, PatternList, Program, SetList, Stmt};
 
 #[cfg(test)]
 mod tests;

@@ -1,6 +1,10 @@
 //! Programs of the C subset.
 
+use dt_fields::SetDef;
 use dt_values::{Items, Name, Width};
+
+/// Argument sets in order.
+pub type SetList = Items<SetDef>;
 
 /// Names in order.
 pub type NameList = Items<Name>;
@@ -39,7 +43,7 @@ pub struct Program {
     /// The width of an instruction word.
     pub width: Width,
     /// The argument sets, in order of definition.
-    pub sets: NameList,
+    pub sets: SetList,
     /// What stands before each pattern's name in its prototype, and whether the prototypes are static. It is there
     /// exactly where a pattern is.
     pub prefix: Option<(Name, bool)>,

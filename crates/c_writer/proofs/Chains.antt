@@ -1,25 +1,31 @@
 -- The run of a chain of tests makes the calls of the trial of its patterns.
-use Rattle.std.proofs.Common.{◌≡◌, ℕ, ◌==◌, List, [], ◌∷◌, ◌++◌, Bool, true, false, refl, ap, sym, subst, ◌∙◌, arith, append-nil, append_assoc, get_or}
+use Rattle.std.proofs.Common.{◌≡◌, ℕ, ◌==◌, List, [], ◌∷◌, ◌++◌, Some, Bool, true, false, refl, ap, sym, subst, ◌∙◌, arith, append-nil, append_assoc, get_or}
 use Rattle.std.specs.Prelude.{All, bit_and, map}
-use Rattle.std.specs.List.{list_any}
 use Rattle.std.proofs.lemmas.Bool.Decides.{nat_tests}
 use Rattle.std.proofs.lemmas.Nat.{and_le_r}
 use Rattle.std.proofs.lemmas.List.Elements.{All-head, All-tail}
 use Rattle.dt_values.specs.Types.{is_text}
+use Rattle.dt_fields.specs.declared.set.SetDef.{SetDef}
 use Rattle.dt_forms.specs.Patterns.{FlatPattern, matches}
-use Rattle.c_subset.specs.Programs.{Name, Stmts, done, Program}
+use Rattle.c_subset.specs.Programs.{Stmts, done, Program}
 use Rattle.dt_match.specs.Hosts.{Call, Host}
 use Rattle.dt_match.specs.Trial.{Trial, call_of, after_answer, call_or_pass, trial_of}
-use Rattle.c_eval.specs.Runs.{Standing, Turn, going, ended, go_on, is_set_declared, is_format_declared, is_pattern_declared, after_test, run_block, after_call, end_or_go_on, run_all, Run, whole_run, at_start, run_of}
+use Rattle.c_eval.specs.Runs.{Standing, Turn, going, ended, go_on, set_at, declared_set, is_format_declared, is_pattern_declared, after_test, run_block, after_call, end_or_go_on, run_all, Run, whole_run, at_start, run_of}
 use Rattle.c_writer.specs.Agrees.{ended_with, AgreesWith}
 use Rattle.c_writer.specs.Chain.{body_then, test_then, chain, chain_program}
 use Rattle.c_writer.specs.Parts.{NamedPattern, Parts, patterns_in}
 use Rattle.c_writer.specs.Sound.{AreSound}
-use Rattle.c_writer.proofs.Declared.{each_declared, text_itself}
+use Rattle.c_writer.specs.Uses.{outside_sets}
+use Rattle.c_writer.proofs.Declared.{each_declared, format_declared}
+use Rattle.c_writer.proofs.SetsByName.{found_apart, found_named, found_empty}
 
--- the program has the pattern with its set and its format, and the pattern fixes bits under its mask alone
-pub record IsKnown (program : Program) (outside : List Name) (q : NamedPattern) : Type 0 where
-  pub set : is_set_declared program outside q.set ≡ true
+-- the program has the pattern with its set, which has no arguments, and its format, and the pattern fixes bits under its
+-- mask alone
+pub record IsKnown (program : Program) (outside : List SetDef) (q : NamedPattern) : Type 0 where
+  pub definition : SetDef
+  pub set : declared_set program outside q.set ≡ Some definition
+  pub set_named : is_text q.set definition.name ≡ true
+  pub no_arguments : definition.members ≡ []
   pub format : is_format_declared program q.format q.set ≡ true
   pub pattern : is_pattern_declared program q.pattern.name q.set ≡ true
   pub under_mask : bit_and q.pattern.fixed_bits q.pattern.fixed_mask ≡ q.pattern.fixed_bits
@@ -53,12 +59,12 @@ matches_all p word e under = grind (arith, nat_tests, and_le_r word p.fixed_mask
 abbrev flat : List NamedPattern → List FlatPattern
 flat qs = map (λ q. q.pattern) qs
 
-module _ {S : Type 0} (program : Program) (outside : List Name) (host : Host S) (word : ℕ) where
+module _ {S : Type 0} (program : Program) (outside : List SetDef) (host : Host S) (word : ℕ) where
   -- the body of a known pattern makes its call
   body_runs : (q : NamedPattern) (rest : Stmts) (r : Standing S) → IsKnown program outside q
       → run_all program outside host word (body_then q rest) r
       ≡ go_on (end_or_go_on (host.outcome r.state (call_of q.pattern)) (after_call host (call_of q.pattern) r)) (run_all program outside host word rest)
-  body_runs q rest r known = rw (known.set, known.format, known.pattern, text_itself q.set) refl
+  body_runs q rest r known = rw (known.set, known.format, known.pattern, known.set_named, known.no_arguments) refl
 
   -- the body alone, and what follows it
   bare_agrees : (q : NamedPattern) (qs : List NamedPattern) → IsKnown program outside q → AgreeOn (trial_of host (flat qs) word) (run_all program outside host word (chain qs))
@@ -97,19 +103,23 @@ module _ {S : Type 0} (program : Program) (outside : List Name) (host : Host S) 
       test_agrees q qs (q.pattern.fixed_mask == 0) refl (All-head (IsKnown program outside) q qs known) agree r
 
 -- the patterns of sound parts are known to their program
-each_known : (p : Parts) → AreSound p → All (IsKnown (chain_program p) []) p.patterns
+each_known : (p : Parts) → AreSound p → All (IsKnown (chain_program p) (outside_sets p.sets)) p.patterns
 each_known p s = λ k d within.
     let q = get_or p.patterns k d in
     let h = s.patterns_sound k d within in
+    let found = found_empty (set_at p.sets q.set) h.set in
     record {
-      set = ap (list_any (is_text q.set)) (append-nil p.sets) ∙ h.set;
-      format = h.format;
+      definition = found.definition;
+      set = found_apart q.set p.sets s.sets_differ ∙ found.found_is;
+      set_named = found_named p.sets q.set found.definition found.found_is;
+      no_arguments = found.empty;
+      format = format_declared p.patterns p.extractions k d within h.format;
       pattern = each_declared p.patterns s.one_set k d within;
       under_mask = h.pattern.bits_in_mask;
     }
 
 -- the run of the program of sound parts makes the calls of the trial
-pub program_agrees : {S : Type 0} (host : Host S) (p : Parts) (word : ℕ) (state : S) → AreSound p → AgreesWith (trial_of host (patterns_in p) word state) (run_of (chain_program p) [] host word state)
+pub program_agrees : {S : Type 0} (host : Host S) (p : Parts) (word : ℕ) (state : S) → AreSound p → AgreesWith (trial_of host (patterns_in p) word state) (run_of (chain_program p) (outside_sets p.sets) host word state)
 program_agrees host p word state s =
-    let h = chain_agrees (chain_program p) [] host word p.patterns (each_known p s) (at_start state) in
+    let h = chain_agrees (chain_program p) (outside_sets p.sets) host word p.patterns (each_known p s) (at_start state) in
     record { calls = h.calls; ended = h.ended; state = h.state }

@@ -1,19 +1,20 @@
--- The program declares each pattern with its set: at the first pattern of its name, which has the same set.
+-- The program declares each pattern with its set: at the first pattern of its name, which has the same set. And it
+-- declares its format with this set, since the format is used.
 use Rattle.std.proofs.Common.{◌≡◌, suc, List, [], ◌∷◌, get_or, Bool, true, false, not, ◌&&◌, ◌||◌, refl, sym, ap, ◌∙◌, subst, arith}
 use Rattle.std.specs.Prelude.{map, filter, All, AllPairs}
 use Rattle.std.specs.List.{list_any}
 use Rattle.std.proofs.lemmas.Bool.{and_parts}
 use Rattle.std.proofs.lemmas.List.Elements.{All-nil, All-cons}
+use Rattle.std.proofs.lemmas.List.Folds.{list_any_at}
 use Rattle.std.proofs.lemmas.Map.Views.{any-filter_same}
 use Rattle.std.proofs.lemmas.Slice.Eq.{bytes_eq-Decides}
 use Rattle.dt_values.specs.Types.{is_text}
-use Rattle.c_subset.specs.Programs.{Name}
+use Rattle.c_subset.specs.Programs.{Extraction}
 use Rattle.c_writer.specs.Parts.{NamedPattern}
 use Rattle.c_writer.specs.Prototypes.{has_other_name, first_of_each_name, prototype_of, prototypes}
 use Rattle.c_writer.specs.Sound.{HaveOneSet}
-
-pub text_itself : (n : Name) → is_text n n ≡ true
-text_itself n = (bytes_eq-Decides n n).1 refl
+use Rattle.c_writer.specs.Uses.{is_format_used}
+use Rattle.c_writer.proofs.SetsByName.{text_itself}
 
 -- the name and the set of a pattern are those of another
 abbrev names_both : NamedPattern → NamedPattern → Bool
@@ -63,3 +64,19 @@ any_prototype r (q ∷ qs) = ap (λ b. names_both r q || b) (any_prototype r qs)
 
 pub each_declared : (qs : List NamedPattern) → AllPairs HaveOneSet qs → All (λ r. list_any (λ d. is_text r.pattern.name d.name && is_text r.set d.set) (prototypes qs) ≡ true) qs
 each_declared qs h = λ k d within. any_prototype (get_or qs k d) (first_of_each_name qs) ∙ each_found qs h k d within
+
+-- the extraction is of the format and the set of a pattern
+abbrev pub names_parts : NamedPattern → Extraction → Bool
+names_parts q e = is_text q.format e.format && is_text q.set e.set
+
+format_passes : (qs : List NamedPattern) (q : NamedPattern) (e : Extraction) → is_format_used qs q.format ≡ true → names_parts q e ≡ true → is_format_used qs e.format ≡ true
+format_passes qs q e used named =
+    let same : q.format ≡ e.format = (bytes_eq-Decides q.format e.format).0 (and_parts (is_text q.format e.format) (is_text q.set e.set) named).0 in
+    subst (λ n. is_format_used qs n ≡ true) same used
+
+-- it stays where only those of used formats do
+pub format_declared : (qs : List NamedPattern) (es : List Extraction) → All (λ q. list_any (names_parts q) es ≡ true → list_any (names_parts q) (filter (λ e. is_format_used qs e.format) es) ≡ true) qs
+format_declared qs es k d within there =
+    let q = get_or qs k d in
+    let used : is_format_used qs q.format ≡ true = list_any_at (λ r. is_text q.format r.format) qs k d within (text_itself q.format) in
+    any-filter_same (names_parts q) (λ e. is_format_used qs e.format) true (λ e named. format_passes qs q e used named) es ∙ there

@@ -1,6 +1,9 @@
 pub mod Lines
 pub mod FirstNames
+pub mod Choosing
+pub mod Using
 pub mod Rules
+pub mod SetsByName
 pub mod Declared
 pub mod Chains
 pub mod Models

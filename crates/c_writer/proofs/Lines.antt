@@ -4,24 +4,27 @@ use Rattle.std.specs.Prelude.{flat_map, filter, codes}
 use Rattle.std.specs.List.{All}
 use Rattle.std.proofs.lemmas.List.Elements.{All-head, All-tail, All-map, All-weaker, All-filter, All-cons}
 use Rattle.dt_values.specs.Names.{IsName}
+use Rattle.dt_values.specs.declared.ctype.Member.{Member}
 use Rattle.dt_values.specs.declared.width.Width.{Width}
 use Rattle.dt_values.specs.declared.width.Width.TheVariants.{W16, W32, W64}
+use Rattle.dt_fields.specs.declared.set.SetDef.{SetDef}
 use Rattle.dt_text.specs.Hexadecimal.{hex}
 use Rattle.dt_forms.specs.Patterns.{FlatPattern}
 use Rattle.dt_forms.specs.Sound.{IsSoundPattern}
 use Rattle.c_subset.specs.Bytes.{IsWord}
 use Rattle.c_subset.specs.Tokens.{word, mark, read, tokens_of}
 use Rattle.c_subset.specs.Programs as c
-use Rattle.c_subset.specs.Programs.{Name, Extraction, Prefix, extract, call, Stmts, hex_length, word_type, static_spelled, prototype_spelled, set_spelled, pattern_spelled, extract_spelled, if_spelled, stmt_spelled, stmts_spelled, union_set_spelled, union_spelled, prefix_of, decoder_head_spelled, decoder_end_spelled, decoder_spelled, spelling}
-use Rattle.c_subset.specs.Keeps.{PatternNamed, ExtractionNamed}
+use Rattle.c_subset.specs.Programs.{Name, Extraction, Prefix, extract, call, Stmts, hex_length, word_type, static_spelled, prototype_spelled, member_spelled, set_spelled, pattern_spelled, extract_spelled, if_spelled, stmt_spelled, stmts_spelled, union_set_spelled, union_spelled, prefix_of, decoder_head_spelled, decoder_end_spelled, decoder_spelled, spelling}
+use Rattle.c_subset.specs.Keeps.{IsTypeKept, SetKeeps, PatternNamed, ExtractionNamed}
 use Rattle.c_subset.proofs.Lexing.{Lexes, line_lexes, lexes_none, lexes_append, lexes_each, tokens_from}
 use Rattle.c_subset.proofs.Seeing.{see}
-use Rattle.c_subset.proofs.Words.{hex_word_is, decimal_word_is, name_is_word, underscore, word_type_is}
+use Rattle.c_subset.proofs.Words.{hex_word_is, decimal_word_is, name_is_word, type_name_is_word, underscore, word_type_is}
 use Rattle.c_writer.specs.Parts.{NamedPattern, Parts}
 use Rattle.c_writer.specs.Prototypes.{has_other_name, first_of_each_name, prototype_of, prototypes}
-use Rattle.c_writer.specs.Layout.{static_text, head_line, set_lines, typedef_line, prototype_line, prototype_lines, extraction_lines, empty_line, head_of_decoder, decoder_head_lines, union_head_line, union_set_line, union_end_lines, union_lines, union_where_patterns, comment_line, extract_line, call_line, body_lines, if_line, close_line, test_lines, pattern_lines, end_lines, decoder_lines, layout}
-use Rattle.c_writer.specs.Chain.{test_then, chain, prefix_where_patterns, sets_where_patterns, chain_program}
+use Rattle.c_writer.specs.Layout.{static_text, head_line, set_head_line, member_line, set_end_line, set_lines, typedef_line, prototype_line, prototype_lines, extraction_lines, empty_line, head_of_decoder, decoder_head_lines, union_head_line, union_set_line, union_end_lines, union_lines, union_where_patterns, comment_line, extract_line, call_line, body_lines, if_line, close_line, test_lines, pattern_lines, end_lines, decoder_lines, layout}
+use Rattle.c_writer.specs.Chain.{test_then, chain, prefix_where_patterns, chain_program}
 use Rattle.c_writer.specs.Sound.{IsSoundIn, AreSound}
+use Rattle.c_writer.specs.Uses.{declared_sets, is_set_used, is_format_used, used_sets, used_extractions}
 
 extract_is_word : IsWord (codes "_extract_")
 extract_is_word = record { some = lit< tt; letters = refl }
@@ -40,9 +43,27 @@ head_lexes : Lexes head_line []
 unfolding see read
 head_lexes = line_lexes _ _ (tt, tt) refl
 
-set_lexes : (s : Name) → IsName s → Lexes (set_lines s) (set_spelled s)
+set_head_lexes : Lexes set_head_line (word (codes "typedef") ∷ word (codes "struct") ∷ c.open_brace ∷ [])
 unfolding see read
-set_lexes s h = line_lexes _ _ (tt, (name_is_word s h, (tt, tt))) refl
+set_head_lexes = line_lexes _ _ (tt, tt) refl
+
+-- the name and the type of an argument
+record MemberNamed (m : Member) : Type 0 where
+  pub name : IsName m.name
+  pub type : IsTypeKept m.ctype
+
+member_lexes : (m : Member) → MemberNamed m → Lexes (member_line m) (member_spelled m)
+unfolding see read
+member_lexes m h = line_lexes _ _ (tt, (type_name_is_word m.ctype h.type, (tt, (name_is_word m.name h.name, (tt, tt))))) refl
+
+set_end_lexes : (s : Name) → IsName s → Lexes (set_end_line s) (c.close_brace ∷ c.arg_ s ∷ c.semicolon ∷ [])
+unfolding see read
+set_end_lexes s h = line_lexes _ _ (tt, (name_is_word s h, (tt, tt))) refl
+
+set_lexes : (s : SetDef) → SetKeeps s → Lexes (set_lines s) (set_spelled s)
+set_lexes s h =
+    let members : All MemberNamed s.members = λ k d below. record { name = h.arguments_named k d below; type = h.types k d below } in
+    lexes_append set_head_lexes (lexes_append (lexes_each MemberNamed member_line member_spelled member_lexes s.members members) (set_end_lexes s.name h.named))
 
 typedef_lexes : (p : c.Pattern) → PatternNamed p → Lexes (typedef_line p) (word (codes "typedef") ∷ c.arg_ p.set ∷ c.arg_ p.name ∷ c.semicolon ∷ [])
 unfolding see read
@@ -149,7 +170,7 @@ prototypes_lex : (prefix : Prefix) (qs : List NamedPattern) → IsName prefix.na
 prototypes_lex prefix [] h k = lexes_none
 prototypes_lex prefix (q ∷ qs) h k = lexes_each PatternNamed (prototype_lines prefix) (pattern_spelled prefix) (λ d named. pattern_lexes prefix d h named) (prototypes (q ∷ qs)) k
 
-union_part_lexes : (qs : List NamedPattern) (sets : List Name) → All IsName sets → Lexes (union_where_patterns qs sets) (union_spelled (prototypes qs) (sets_where_patterns qs sets))
+union_part_lexes : (qs : List NamedPattern) (sets : List Name) → All IsName sets → Lexes (union_where_patterns qs sets) (union_spelled (prototypes qs) sets)
 union_part_lexes [] sets h = lexes_none
 union_part_lexes (q ∷ qs) sets h = union_lexes (prototype_of q) (map prototype_of (filter (has_other_name q) (first_of_each_name qs))) sets h
 
@@ -158,10 +179,16 @@ tests_lex : (p : Parts) (qs : List NamedPattern) → IsName p.decoder → IsName
 tests_lex p [] h k s = lexes_none
 tests_lex p (q ∷ qs) h k s = chain_lexes p (q ∷ qs) h k s
 
+pub used_sets_named : (p : Parts) → AreSound p → All IsName (used_sets p)
+used_sets_named p s = All-filter (is_set_used p.patterns) IsName _ (All-map IsName (λ (d : SetDef). d.name) p.sets s.sets_named)
+
+pub used_extractions_named : (p : Parts) → AreSound p → All ExtractionNamed (used_extractions p)
+used_extractions_named p s = All-filter (λ e. is_format_used p.patterns e.format) ExtractionNamed p.extractions s.extractions_named
+
 decoder_part_lexes : (p : Parts) → AreSound p → Lexes (decoder_lines p) (decoder_spelled (chain_program p))
 decoder_part_lexes p s =
     lexes_append (decoder_head_lexes p.width p.decoder p.decoder_static s.decoder_named)
-    (lexes_append (union_part_lexes p.patterns p.sets s.sets_named)
+    (lexes_append (union_part_lexes p.patterns (used_sets p) (used_sets_named p s))
     (lexes_append (tests_lex p p.patterns s.decoder_named s.prefix_named s.patterns_sound)
     end_lexes))
 
@@ -169,9 +196,9 @@ text_lexes : (p : Parts) → AreSound p → Lexes (layout p) (spelling (chain_pr
 unfolding spelling
 text_lexes p s =
     lexes_append head_lexes
-    (lexes_append (lexes_each IsName set_lines set_spelled set_lexes p.sets s.sets_named)
+    (lexes_append (lexes_each SetKeeps set_lines set_spelled set_lexes (declared_sets p.sets) s.sets_keep)
     (lexes_append (prototypes_lex p.prefix p.patterns s.prefix_named (prototypes_named p s))
-    (lexes_append (lexes_each ExtractionNamed (extraction_lines p.width p.decoder) (extract_spelled p.width p.decoder) (λ e h. extraction_lexes p.width p.decoder e s.decoder_named h) p.extractions s.extractions_named)
+    (lexes_append (lexes_each ExtractionNamed (extraction_lines p.width p.decoder) (extract_spelled p.width p.decoder) (λ e h. extraction_lexes p.width p.decoder e s.decoder_named h) (used_extractions p) (used_extractions_named p s))
     (decoder_part_lexes p s))))
 
 pub layout_tokens : (p : Parts) → AreSound p → tokens_of (layout p) ≡ Some (spelling (chain_program p))

@@ -1,25 +1,24 @@
 -- The program of sound parts keeps the rules of the C subset.
-use Rattle.std.proofs.Common.{◌≡◌, ◌≢◌, ◌<◌, ◌^◌, ◌==◌, List, [], ◌∷◌, Bool, true, false, refl, sym, arith, map, subst}
+use Rattle.std.proofs.Common.{◌≡◌, ◌≢◌, ◌<◌, ◌^◌, ◌==◌, List, [], ◌∷◌, Bool, true, false, not, refl, sym, arith, map, filter, subst}
 use Rattle.std.specs.Prelude.{◌↔◌, nat_eq, IsSome, IfSome}
 use Rattle.std.specs.List.{All}
 use Rattle.std.specs.Cmp.Lexicographic.{pointwise, nat_list_eq_equiv}
-use Rattle.std.proofs.lemmas.List.Elements.{All-head, All-tail, All-nil, All-weaker, filter_passes}
+use Rattle.std.proofs.lemmas.List.Elements.{All-head, All-tail, All-weaker, filter_passes}
 use Rattle.std.proofs.lemmas.List.Kept.{AllPairs-cons, AllPairs-filter}
 use Rattle.std.specs.List.{AllPairs}
 use Rattle.std.specs.Prelude.{length, get_or}
 use Rattle.std.proofs.lemmas.List.{get_or-map, length-map}
 use Rattle.dt_values.specs.Names.{IsName}
 use Rattle.dt_values.specs.Widths.{width_bits}
-use Rattle.c_subset.specs.Programs.{Name, Prefix, Pattern, Stmts}
+use Rattle.dt_fields.specs.declared.set.SetDef.{SetDef}
+use Rattle.c_subset.specs.Programs.{Name, Prefix, Pattern, Extraction, Stmts}
 use Rattle.c_subset.specs.Keeps.{StmtsNamed, StmtsBelow, HaveNoCall, AllDiffer, KeepsRules}
 use Rattle.c_writer.specs.Parts.{NamedPattern, Parts}
 use Rattle.c_writer.specs.Prototypes.{has_other_name, first_of_each_name, prototype_of, prototypes}
-use Rattle.c_writer.specs.Chain.{test_then, chain, prefix_where_patterns, sets_where_patterns, chain_program}
+use Rattle.c_writer.specs.Chain.{test_then, chain, prefix_where_patterns, chain_program}
 use Rattle.c_writer.specs.Sound.{IsSoundIn, AreSound}
-use Rattle.c_writer.proofs.Lines.{prototypes_named}
-
-none_differ : AllDiffer []
-none_differ = λ i j d below within. absurd (omega arith)
+use Rattle.c_writer.specs.Uses.{is_set_used, is_format_used}
+use Rattle.c_writer.proofs.Lines.{prototypes_named, used_sets_named, used_extractions_named}
 
 -- patterns of other names
 abbrev HaveOtherNames : NamedPattern → NamedPattern → Type 0
@@ -63,13 +62,23 @@ prefix_has_name : (qs : List NamedPattern) (prefix : Prefix) → IsName prefix.n
 prefix_has_name [] prefix h = tt
 prefix_has_name (q ∷ qs) prefix h = h
 
-union_has : (P : List Name → Type 0) (qs : List NamedPattern) (sets : List Name) → P [] → P sets → P (sets_where_patterns qs sets)
-union_has P [] sets none some = none
-union_has P (q ∷ qs) sets none some = some
+none_used : (names : List Name) → filter (is_set_used []) names ≡ []
+none_used [] = refl
+none_used (n ∷ names) = none_used names
 
-union_empty : (qs : List NamedPattern) (sets : List Name) → prototypes qs ≡ [] → sets_where_patterns qs sets ≡ []
-union_empty [] sets h = refl
-union_empty (q ∷ qs) sets h = absurd (cc)
+union_empty : (qs : List NamedPattern) (names : List Name) → prototypes qs ≡ [] → filter (is_set_used qs) names ≡ []
+union_empty [] names h = none_used names
+union_empty (q ∷ qs) names h = absurd (cc)
+
+-- those of a list that pass a test differ as all do
+passing_differ : {X : Type 0} (f : X → Name) (e : X) (test : X → Bool) (xs : List X) → AllPairs (λ x y. f x ≢ f y) xs → AllDiffer (map f (filter test xs))
+passing_differ f e test xs h = pairs_map (λ x y. x ≢ y) f e (filter test xs) (AllPairs-filter (λ x y. f x ≢ f y) test xs h)
+
+no_set : SetDef
+no_set = record { name = []; members = []; outside = false }
+
+no_extraction : Extraction
+no_extraction = record { format = []; set = [] }
 
 test_named : (p : Parts) (b : Bool) (q : NamedPattern) (rest : Stmts) → IsSoundIn p q → StmtsNamed rest → StmtsNamed (test_then b q rest)
 test_named p true q rest h r = ((h.format_named, h.set_named), ((h.pattern.named, h.set_named), r))
@@ -93,18 +102,20 @@ no_calls (q ∷ qs) h = absurd (cc)
 
 pub keeps_rules : (p : Parts) → AreSound p → KeepsRules (chain_program p)
 keeps_rules p s = record {
-  sets_named = s.sets_named;
-  sets_differ = s.sets_differ;
+  sets_keep = s.sets_keep;
+  sets_differ = passing_differ (λ (d : SetDef). d.name) no_set (λ d. not d.outside) p.sets s.sets_differ;
   prefix_with_patterns = prefix_there p.patterns p.prefix;
   prefix_named = prefix_has_name p.patterns p.prefix s.prefix_named;
   patterns_named = prototypes_named p s;
   patterns_differ = names_differ (first_of_each_name p.patterns) (firsts_differ p.patterns);
-  extracts_named = s.extractions_named;
-  formats_differ = s.formats_differ;
+  extracts_named = used_extractions_named p s;
+  formats_differ = passing_differ (λ (e : Extraction). e.format) no_extraction (λ e. is_format_used p.patterns e.format) p.extractions s.formats_differ;
   decoder_named = s.decoder_named;
-  union_sets_named = union_has (All IsName) p.patterns p.sets (All-nil IsName) s.sets_named;
-  union_sets_differ = union_has AllDiffer p.patterns p.sets none_differ s.sets_differ;
-  union_with_patterns = union_empty p.patterns p.sets;
+  union_sets_named = used_sets_named p s;
+  union_sets_differ =
+      AllPairs-filter (λ x y. x ≢ y) (is_set_used p.patterns) _
+      (pairs_map (λ x y. x ≢ y) (λ (d : SetDef). d.name) no_set p.sets s.sets_differ);
+  union_with_patterns = union_empty p.patterns (map (λ d. d.name) p.sets);
   body_named = chain_named p p.patterns s.patterns_sound;
   body_below = chain_below p p.patterns s.patterns_sound;
   calls_with_patterns = no_calls p.patterns;

@@ -1,8 +1,9 @@
 -- The program that tries patterns one after another (docs/C_SUBSET.md, "The text").
 use Rattle.std.specs.Prelude.{◌==◌, Bool, true, false, List, [], ◌∷◌, Option, Some, None}
-use Rattle.c_subset.specs.Programs.{Name, Prefix, Stmts, done, then, on_mask, extract, call, Program}
+use Rattle.c_subset.specs.Programs.{Prefix, Stmts, done, then, on_mask, extract, call, Program}
 use Rattle.c_writer.specs.Parts.{NamedPattern, Parts}
 use Rattle.c_writer.specs.Prototypes.{prototypes}
+use Rattle.c_writer.specs.Uses.{declared_sets, used_extractions, used_sets}
 
 -- the extraction and the call of a pattern
 abbrev pub body_then : NamedPattern → Stmts → Stmts
@@ -18,24 +19,20 @@ abbrev pub chain : List NamedPattern → Stmts
 chain [] = done
 chain (q ∷ qs) = test_then (q.pattern.fixed_mask == 0) q (chain qs)
 
--- the prefix and the union's sets are there where a pattern is
+-- the prefix is there where a pattern is
 abbrev pub prefix_where_patterns : List NamedPattern → Prefix → Option Prefix
 prefix_where_patterns [] prefix = None
 prefix_where_patterns (q ∷ qs) prefix = Some prefix
 
-abbrev pub sets_where_patterns : List NamedPattern → List Name → List Name
-sets_where_patterns [] sets = []
-sets_where_patterns (q ∷ qs) sets = sets
-
 abbrev pub chain_program : Parts → Program
 chain_program p = record {
   width = p.width;
-  sets = p.sets;
+  sets = declared_sets p.sets;
   prefix = prefix_where_patterns p.patterns p.prefix;
   patterns = prototypes p.patterns;
-  extracts = p.extractions;
+  extracts = used_extractions p;
   decoder = p.decoder;
   decoder_static = p.decoder_static;
-  union_sets = sets_where_patterns p.patterns p.sets;
+  union_sets = used_sets p;
   body = chain p.patterns;
 }

@@ -1,6 +1,9 @@
 -- The bytes of the C text of a decoder, line by line (docs/C_SUBSET.md, "The text").
 use Rattle.std.specs.Prelude.{ℕ, ◌+◌, ◌==◌, Bool, true, false, List, [], ◌∷◌, ◌++◌, flat_map, codes, decimal}
+use Rattle.dt_values.specs.declared.ctype.Member.{Member}
 use Rattle.dt_values.specs.declared.width.Width.{Width}
+use Rattle.dt_values.specs.Types.{type_name}
+use Rattle.dt_fields.specs.declared.set.SetDef.{SetDef}
 use Rattle.dt_text.specs.Hexadecimal.{hex}
 use Rattle.dt_text.specs.Pieces.{text, name, spaces, pieces_text}
 use Rattle.dt_forms.specs.Patterns.{FlatPattern}
@@ -8,6 +11,7 @@ use Rattle.c_subset.specs.Programs as c
 use Rattle.c_subset.specs.Programs.{Name, Extraction, Prefix, hex_length, word_type}
 use Rattle.c_writer.specs.Parts.{NamedPattern, Parts}
 use Rattle.c_writer.specs.Prototypes.{prototypes}
+use Rattle.c_writer.specs.Uses.{declared_sets, used_extractions, used_sets}
 
 abbrev pub static_text : Bool → List ℕ
 static_text true = pieces_text (text (codes "static ") ∷ [])
@@ -16,12 +20,25 @@ static_text false = []
 abbrev pub head_line : List ℕ
 head_line = pieces_text (text (codes "/* Made from pattern files. */\n") ∷ [])
 
-abbrev pub set_lines : Name → List ℕ
-set_lines s = pieces_text (text (codes "\ntypedef struct {\n} arg_") ∷ name s ∷ text (codes ";\n") ∷ [])
+abbrev pub set_head_line : List ℕ
+set_head_line = pieces_text (text (codes "\ntypedef struct {\n") ∷ [])
+
+abbrev pub typed_line : Name → Name → List ℕ
+typed_line type n = pieces_text (text (codes "    ") ∷ name type ∷ text (codes " ") ∷ name n ∷ text (codes ";\n") ∷ [])
+
+abbrev pub member_line : Member → List ℕ
+member_line m = typed_line (type_name m.ctype) m.name
+
+abbrev pub set_end_line : Name → List ℕ
+set_end_line s = pieces_text (text (codes "} arg_") ∷ name s ∷ text (codes ";\n") ∷ [])
+
+abbrev pub set_lines : SetDef → List ℕ
+set_lines s = set_head_line ++ (flat_map member_line s.members ++ set_end_line s.name)
 
 abbrev pub typedef_line : c.Pattern → List ℕ
 typedef_line p =
-    pieces_text (text (codes "\ntypedef arg_") ∷ name p.set ∷ text (codes " arg_") ∷ name p.name ∷ text (codes ";\n") ∷ [])
+    pieces_text (text (codes "\ntypedef arg_") ∷ name p.set ∷ text (codes " arg_") ∷ name p.name
+    ∷ text (codes ";\n") ∷ [])
 
 abbrev pub prototype_line : Name → Name → List ℕ
 prototype_line prefix n =
@@ -112,7 +129,7 @@ end_lines = pieces_text (text (codes "    return false;\n}\n") ∷ [])
 abbrev pub decoder_lines : Parts → List ℕ
 decoder_lines p =
     decoder_head_lines p.width p.decoder p.decoder_static
-    ++ (union_where_patterns p.patterns p.sets
+    ++ (union_where_patterns p.patterns (used_sets p)
     ++ (flat_map (pattern_lines p) p.patterns
     ++ end_lines))
 
@@ -120,7 +137,7 @@ decoder_lines p =
 abbrev pub layout : Parts → List ℕ
 layout p =
     head_line
-    ++ (flat_map set_lines p.sets
+    ++ (flat_map set_lines (declared_sets p.sets)
     ++ (flat_map (prototype_lines p.prefix) (prototypes p.patterns)
-    ++ (flat_map (extraction_lines p.width p.decoder) p.extractions
+    ++ (flat_map (extraction_lines p.width p.decoder) (used_extractions p)
     ++ decoder_lines p)))

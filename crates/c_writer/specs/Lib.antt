@@ -1,4 +1,5 @@
 pub mod Parts
+pub mod Uses
 pub mod Within
 pub mod Prototypes
 pub mod Layout

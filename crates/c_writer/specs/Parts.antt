@@ -7,7 +7,7 @@ use Rattle.dt_forms.specs.declared.form.Pattern.{Pattern}
 use Rattle.dt_forms.specs.declared.options.Options.{Options}
 use Rattle.dt_forms.specs.Models.{Definitions}
 use Rattle.dt_forms.specs.Patterns.{FlatPattern}
-use Rattle.dt_forms.specs.Sound.{set_number}
+use Rattle.dt_forms.specs.PatternLines.{set_number}
 use Rattle.dt_forms.specs.View.{pattern_seen}
 use Rattle.c_subset.specs.Programs.{Name, Extraction, Prefix}
 
@@ -22,8 +22,8 @@ pub record Parts : Type 0 where
   pub decoder : Name
   pub decoder_static : Bool
   pub prefix : Prefix
-  -- the sets and the extractions, in order of definition
-  pub sets : List Name
+  -- all sets, and the extractions of all formats, in order of definition
+  pub sets : List SetDef
   pub extractions : List Extraction
   -- the flat list
   pub patterns : List NamedPattern
@@ -38,11 +38,18 @@ format_name formats n = get_or (map (λ f. f.name) formats) n []
 abbrev pub extraction_of : List SetDef → Format → Extraction
 extraction_of sets f = record { format = f.name; set = set_name sets f.set }
 
+-- the names of a pattern's set and of its format
+abbrev pub set_name_of : List SetDef → List Format → Pattern → Name
+set_name_of sets formats p = set_name sets (set_number formats p)
+
+abbrev pub format_name_of : List Format → Pattern → Name
+format_name_of formats p = format_name formats p.format
+
 abbrev pub named_pattern : List SetDef → List Format → Pattern → NamedPattern
 named_pattern sets formats p = record {
   pattern = pattern_seen p;
-  format = format_name formats p.format;
-  set = set_name sets (set_number formats p);
+  format = format_name_of formats p;
+  set = set_name_of sets formats p;
 }
 
 -- what stands before the translators' names
@@ -56,7 +63,7 @@ parts_of options ds = record {
   decoder = options.decode;
   decoder_static = options.decode_static;
   prefix = prefix_in options;
-  sets = map (λ s. s.name) ds.sets;
+  sets = ds.sets;
   extractions = map (extraction_of ds.sets) ds.formats;
   patterns = map (named_pattern ds.sets ds.formats) ds.patterns;
 }

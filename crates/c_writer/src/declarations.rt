@@ -1,19 +1,22 @@
 //! Writes what stands before the decoder: sets, prototypes, extractions.
 
-ghost use Rattle.std.specs.Prelude.{◌≡◌, flat_map, map};
+ghost use Rattle.std.specs.Prelude.{◌≡◌, [], filter, flat_map, map, if◌then◌else◌};
 ghost use Rattle.dt_text.specs.Puts.{Puts};
 ghost use Rattle.c_subset.specs.Programs.{word_type};
-ghost use Rattle.c_writer.specs.Layout.{extraction_lines, head_line, prototype_line, prototype_lines};
-ghost use Rattle.c_writer.specs.Layout.{set_lines, static_text, typedef_line};
+ghost use Rattle.c_writer.specs.Layout.{extraction_lines, head_line, member_line, prototype_line, prototype_lines};
+ghost use Rattle.c_writer.specs.Layout.{set_end_line, set_head_line, set_lines, static_text, typed_line, typedef_line};
 ghost use Rattle.c_writer.specs.Parts.{extraction_of, prefix_in};
 ghost use Rattle.c_writer.specs.Prototypes.{prototype_seen};
+ghost use Rattle.c_writer.specs.Uses.{declared_sets, is_among};
 ghost use Rattle.c_writer.specs.Within.{AreFormsWithin, IsFormatWithin};
 
-use crate::prototype::{Prototype, set_name};
+use crate::names::set_name;
+use crate::prototype::Prototype;
 use dt_fields::SetDef;
 use dt_forms::{Format, Options};
 use dt_text::{Out, Part, write_parts};
-use dt_values::{Name, Width};
+use dt_values::{Member, Name, Width};
+use indexmap::IndexSet;
 
 pub fn write_head<W: Out>(out: &mut W)
     ensures { Puts (W.state out.old) (W.state out.new) head_line }
@@ -42,25 +45,76 @@ pub fn word_type(width: Width) -> &'static [u8]
     }
 }
 
-fn write_set<W: Out>(out: &mut W, name: &Name)
-    ensures { Puts (W.state out.old) (W.state out.new) (set_lines name.now) }
+fn write_set_head<W: Out>(out: &mut W)
+    ensures { Puts (W.state out.old) (W.state out.new) set_head_line }
+{
+    write_parts(out, &[Part::Text(b"\ntypedef struct {\n")]);
+}
+
+fn write_member_line<'a, W: Out>(out: &mut W, type_name: &'a Name, name: &'a Name)
+    ensures { Puts (W.state out.old) (W.state out.new) (typed_line type_name.now name.now) }
 {
     write_parts(
         out,
         &[
-            Part::Text(b"\ntypedef struct {\n} arg_"),
+            Part::Text(b"    "),
+            Part::Name(type_name),
+            Part::Text(b" "),
             Part::Name(name),
             Part::Text(b";\n"),
         ],
     );
 }
 
+fn write_member<W: Out>(out: &mut W, member: &Member)
+    ensures { Puts (W.state out.old) (W.state out.new) (member_line member.now) }
+{
+    write_member_line(out, &member.ctype.name(), &member.name);
+}
+
+#[tactic(auto, using(dt_text::proofs::Putting::puts_nothing))]
+fn write_members<W: Out>(out: &mut W, members: &[Member])
+    ensures { Puts (W.state out.old) (W.state out.new) (flat_map member_line members.now) }
+{
+    for member in members {
+        write_member(out, member);
+    }
+}
+
+fn write_set_end<W: Out>(out: &mut W, name: &Name)
+    ensures { Puts (W.state out.old) (W.state out.new) (set_end_line name.now) }
+{
+    write_parts(
+        out,
+        &[Part::Text(b"} arg_"), Part::Name(name), Part::Text(b";\n")],
+    );
+}
+
+fn write_set<W: Out>(out: &mut W, set: &SetDef)
+    ensures { Puts (W.state out.old) (W.state out.new) (set_lines set.now) }
+{
+    write_set_head(out);
+    write_members(out, set.members.items());
+    write_set_end(out, &set.name);
+}
+
+// Writes nothing of a set that is declared elsewhere.
+#[tactic(auto, using(dt_text::proofs::Putting::puts_nothing))]
+fn write_set_unless_outside<W: Out>(out: &mut W, set: &SetDef)
+    ensures { Puts (W.state out.old) (W.state out.new) (if set.now.outside then [] else set_lines set.now) }
+{
+    if !set.outside {
+        write_set(out, set);
+    }
+}
+
+/// Writes the sets that are declared in the text.
 #[tactic(auto, using(dt_text::proofs::Putting::puts_nothing))]
 pub fn write_sets<W: Out>(out: &mut W, sets: &[SetDef])
-    ensures { Puts (W.state out.old) (W.state out.new) (flat_map set_lines (map (λ s. s.name) sets.now)) }
+    ensures { Puts (W.state out.old) (W.state out.new) (flat_map set_lines (declared_sets sets.now)) }
 {
     for set in sets {
-        write_set(out, &set.name);
+        write_set_unless_outside(out, set);
     }
 }
 
@@ -142,18 +196,39 @@ fn write_extraction<'a, W: Out>(
     );
 }
 
+// Writes nothing of a format whose name isn't among these.
+#[tactic(auto, using(dt_text::proofs::Putting::puts_nothing))]
+fn write_extraction_where_used<'a, W: Out>(
+    out: &mut W,
+    options: &'a Options,
+    sets: &'a [SetDef],
+    used: &IndexSet<Name>,
+    format: &'a Format,
+)
+    requires { IsFormatWithin sets.now format.now }
+    ensures { Puts (W.state out.old) (W.state out.new) (if is_among used.now.keys format.now.name
+        then extraction_lines options.now.width options.now.decode (extraction_of sets.now format.now) else []) }
+{
+    if used.contains(&format.name) {
+        write_extraction(out, options, sets, format);
+    }
+}
+
+/// Writes the extractions of the formats whose names are among these.
 #[tactic(auto, using(dt_text::proofs::Putting::puts_nothing))]
 pub fn write_extractions<W: Out>(
     out: &mut W,
     options: &Options,
     sets: &[SetDef],
+    used: &IndexSet<Name>,
     formats: &[Format],
 )
     requires { AreFormsWithin sets.now formats.now }
     ensures { Puts (W.state out.old) (W.state out.new)
-        (flat_map (extraction_lines options.now.width options.now.decode) (map (extraction_of sets.now) formats.now)) }
+        (flat_map (extraction_lines options.now.width options.now.decode)
+        (filter (λ e. is_among used.now.keys e.format) (map (extraction_of sets.now) formats.now))) }
 {
     for format in formats {
-        write_extraction(out, options, sets, format);
+        write_extraction_where_used(out, options, sets, used, format);
     }
 }

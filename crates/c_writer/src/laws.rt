@@ -1,6 +1,6 @@
 //! Laws of the text: public functions whose contracts are the laws, and whose bodies are empty.
 
-ghost use Rattle.std.specs.Prelude.{ℕ, Bool, List, []};
+ghost use Rattle.std.specs.Prelude.{ℕ, Bool, List};
 ghost use Rattle.c_subset.specs.Spells.{Spells};
 ghost use Rattle.dt_match.specs.Hosts.{Host, script};
 ghost use Rattle.dt_match.specs.Trial.{trial_of};
@@ -10,6 +10,7 @@ ghost use Rattle.c_writer.specs.Chain.{chain_program};
 ghost use Rattle.c_writer.specs.Layout.{layout};
 ghost use Rattle.c_writer.specs.Parts.{Parts, patterns_in};
 ghost use Rattle.c_writer.specs.Sound.{AreSound};
+ghost use Rattle.c_writer.specs.Uses.{outside_sets};
 
 /// The text of sound parts spells the program that tries their patterns one after another.
 pub fn law_text_spells_program()
@@ -19,14 +20,15 @@ pub fn law_text_spells_program()
 /// This program makes the calls of trying the patterns one after another, for every host.
 pub fn law_run_is_trial<S>()
     ensures { (host : Host S) (p : Parts) (word : ℕ) (state : S) → AreSound p
-        → AgreesWith (trial_of host (patterns_in p) word state) (run_of (chain_program p) [] host word state) }
+        → AgreesWith (trial_of host (patterns_in p) word state)
+        (run_of (chain_program p) (outside_sets p.sets) host word state) }
 {}
 
 /// The same for a script, from its first call on.
 pub fn law_script_run_is_trial()
     ensures { (outcomes : List Bool) (p : Parts) (word : ℕ) → AreSound p → AgreesWith
         (trial_of (script outcomes) (patterns_in p) word 0)
-        (run_of (chain_program p) [] (script outcomes) word 0) }
+        (run_of (chain_program p) (outside_sets p.sets) (script outcomes) word 0) }
 {
     law_run_is_trial::<u64>();
 }

@@ -3,8 +3,10 @@
 
 pub mod declarations;
 pub mod laws;
+pub mod names;
 pub mod prototype;
 pub mod statements;
 #[cfg(test)]
 mod tests;
 pub mod text;
+pub mod uses;

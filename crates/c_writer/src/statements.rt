@@ -1,6 +1,6 @@
 //! Writes the decoder: its head, its union, and a test and a body for each pattern.
 
-ghost use Rattle.std.specs.Prelude.{◌≡◌, false, flat_map, map, All};
+ghost use Rattle.std.specs.Prelude.{◌≡◌, [], false, filter, flat_map, map, All, if◌then◌else◌};
 ghost use Rattle.dt_text.specs.Puts.{Puts};
 ghost use Rattle.dt_forms.specs.View.{pattern_seen};
 ghost use Rattle.c_subset.specs.Programs.{hex_length};
@@ -8,16 +8,18 @@ ghost use Rattle.c_writer.specs.Layout.{body_lines, call_line, close_line, comme
 ghost use Rattle.c_writer.specs.Layout.{empty_line, end_lines, extract_line, head_of_decoder, if_line};
 ghost use Rattle.c_writer.specs.Layout.{pattern_lines, test_lines, union_end_lines, union_head_line};
 ghost use Rattle.c_writer.specs.Layout.{union_lines, union_set_line, union_where_patterns};
-ghost use Rattle.c_writer.specs.Parts.{format_name, named_pattern, parts_of};
+ghost use Rattle.c_writer.specs.Parts.{named_pattern, parts_of};
+ghost use Rattle.c_writer.specs.Uses.{is_among};
 ghost use Rattle.c_writer.specs.Within.{AreWithin, IsPatternWithin};
 ghost use Rattle.dt_forms.specs.Models.{definitions_in};
 
 use crate::declarations::{word_type, write_static};
-use crate::prototype::set_of;
+use crate::names::{format_of, set_of};
 use dt_fields::SetDef;
-use dt_forms::{Format, Model, Options, Pattern};
+use dt_forms::{Model, Options, Pattern};
 use dt_text::{Out, Part, write_parts};
 use dt_values::{Name, Width};
+use indexmap::IndexSet;
 
 fn write_empty_line<W: Out>(out: &mut W)
     ensures { Puts (W.state out.old) (W.state out.new) empty_line }
@@ -70,12 +72,24 @@ fn write_union_set<W: Out>(out: &mut W, name: &Name)
     );
 }
 
+// Writes nothing of a set whose name isn't among these.
 #[tactic(auto, using(dt_text::proofs::Putting::puts_nothing))]
-fn write_union_sets<W: Out>(out: &mut W, sets: &[SetDef])
-    ensures { Puts (W.state out.old) (W.state out.new) (flat_map union_set_line (map (λ s. s.name) sets.now)) }
+fn write_union_set_where_used<W: Out>(out: &mut W, used: &IndexSet<Name>, name: &Name)
+    ensures { Puts (W.state out.old) (W.state out.new)
+        (if is_among used.now.keys name.now then union_set_line name.now else []) }
+{
+    if used.contains(name) {
+        write_union_set(out, name);
+    }
+}
+
+#[tactic(auto, using(dt_text::proofs::Putting::puts_nothing))]
+fn write_union_sets<W: Out>(out: &mut W, used: &IndexSet<Name>, sets: &[SetDef])
+    ensures { Puts (W.state out.old) (W.state out.new)
+        (flat_map union_set_line (filter (is_among used.now.keys) (map (λ s. s.name) sets.now))) }
 {
     for set in sets {
-        write_union_set(out, &set.name);
+        write_union_set_where_used(out, used, &set.name);
     }
 }
 
@@ -85,25 +99,26 @@ fn write_union_end<W: Out>(out: &mut W)
     write_parts(out, &[Part::Text(b"    } u;\n\n")]);
 }
 
-fn write_union<W: Out>(out: &mut W, sets: &[SetDef])
-    ensures { Puts (W.state out.old) (W.state out.new) (union_lines (map (λ s. s.name) sets.now)) }
+fn write_union<W: Out>(out: &mut W, used: &IndexSet<Name>, sets: &[SetDef])
+    ensures { Puts (W.state out.old) (W.state out.new)
+        (union_lines (filter (is_among used.now.keys) (map (λ s. s.name) sets.now))) }
 {
     write_union_head(out);
-    write_union_sets(out, sets);
+    write_union_sets(out, used, sets);
     write_union_end(out);
 }
 
-/// Writes the union, where there is a pattern.
+/// Writes the union of the sets whose names are among these, where there is a pattern.
 #[tactic(auto, using(dt_text::proofs::Putting::puts_nothing))]
-pub fn write_union_where_patterns<W: Out>(out: &mut W, model: &Model)
+pub fn write_union_where_patterns<W: Out>(out: &mut W, used: &IndexSet<Name>, model: &Model)
     ensures { Puts (W.state out.old) (W.state out.new)
         (union_where_patterns (map (named_pattern model.now.sets model.now.formats) model.now.patterns)
-        (map (λ s. s.name) model.now.sets)) }
+        (filter (is_among used.now.keys) (map (λ s. s.name) model.now.sets))) }
 {
     if model.patterns.items().is_empty() {
         return;
     }
-    write_union(out, model.sets.items());
+    write_union(out, used, model.sets.items());
 }
 
 // The file's number is counted from 1.
@@ -168,14 +183,6 @@ fn write_call_line<'a, W: Out>(
             Part::Text(b")) return true;\n"),
         ],
     );
-}
-
-// The name of a pattern's format.
-fn format_of<'a>(formats: &'a [Format], pattern: &Pattern) -> &'a Name
-    requires { IsPatternWithin formats.now pattern.now }
-    ensures { result.now ≡ format_name formats.now pattern.now.format }
-{
-    &formats[pattern.format as usize].name
 }
 
 fn write_body<W: Out>(out: &mut W, options: &Options, model: &Model, level: u32, pattern: &Pattern)

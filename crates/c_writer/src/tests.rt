@@ -1,10 +1,19 @@
-//! The text of a decoder whose options are other than the usual ones (docs/C_SUBSET.md, "The text").
+//! The texts of decoders: with options other than the usual ones, and with argument sets of each kind
+//! (docs/C_SUBSET.md, "The text").
 
+ghost use Rattle.std.specs.Prelude.{◌≡◌, IfOk, vec_len};
+ghost use Rattle.dt_forms.specs.Models.{definitions_in};
 ghost use Rattle.dt_forms.specs.Options.{IsOptions};
+ghost use Rattle.c_writer.specs.Within.{AreWithin};
 
-use crate::text::text;
-use dt_forms::{Options, Source, read_model};
-use dt_values::{Name, Width};
+use crate::text::{layout, text};
+use dt_fields::{MemberList, SetDef};
+use dt_forms::{
+    Entry, EntryList, Format, FormatList, Model, Options, Pattern, PatternList, SetList, Source,
+    ValueList, read_model,
+};
+use dt_values::{CType, Member, Name, Width};
+use std::alloc::Global;
 use std::test::Fail;
 
 const WRITTEN: &str = "/* Made from pattern files. */
@@ -62,5 +71,120 @@ fn names_widths_and_scopes_are_those_of_the_options(rt: HostRuntime) -> Result<(
     let model = read_model(alloc, &options, files.as_slice())?;
     let written = text(alloc, &options, &model)?;
     assert_eq!(rt; written.as_slice(), WRITTEN.as_bytes());
+    Ok(())
+}
+
+const WITH_SETS: &str = "/* Made from pattern files. */
+
+typedef struct {
+    int rd;
+    uint64_t imm;
+} arg_r;
+
+typedef arg_empty arg_nop;
+static bool trans_nop(DisasContext *ctx, arg_nop *a);
+
+static void decode_extract_used(DisasContext *ctx, arg_empty *a, uint32_t insn)
+{
+}
+
+static bool decode(DisasContext *ctx, uint32_t insn)
+{
+    union {
+        arg_empty f_empty;
+    } u;
+
+    if ((insn & 0xffffffff) == 0x00000000) {
+        /* 1:5 */
+        decode_extract_used(ctx, &u.f_empty, insn);
+        if (trans_nop(ctx, &u.f_empty)) return true;
+    }
+    return false;
+}
+";
+
+fn name(bytes: &[u8]) -> Result<Name, Fail> {
+    let name = Name::from_bytes(bytes).ok_or("a name")?;
+    Ok(name)
+}
+
+// A set of two arguments, which no pattern uses, and one that is declared elsewhere.
+fn sets(alloc: Global) -> Result<Vec<SetDef>, Fail>
+    ensures { IfOk result (λ sets. vec_len sets ≡ 2) }
+{
+    let members = vec![in alloc;
+        Member {
+            ctype: CType::Int,
+            name: name(b"rd")?
+        },
+        Member {
+            ctype: CType::U64,
+            name: name(b"imm")?
+        },
+    ]?;
+    let declared = SetDef {
+        name: name(b"r")?,
+        members: MemberList::of(members),
+        outside: false,
+    };
+    let elsewhere = SetDef {
+        name: name(b"empty")?,
+        members: MemberList::of(Vec::new(alloc)),
+        outside: true,
+    };
+    Ok(vec![in alloc; declared, elsewhere]?)
+}
+
+fn format(alloc: Global, bytes: &[u8], set: u32) -> Result<Format, Fail>
+    ensures { IfOk result (λ format. format.set ≡ set) }
+{
+    Ok(Format {
+        name: name(bytes)?,
+        set,
+        bits: 32,
+        fixed_bits: 0,
+        fixed_mask: 0,
+        ignored: 0,
+        values: ValueList::of(Vec::new(alloc)),
+    })
+}
+
+fn nop(alloc: Global, format: u32) -> Result<Pattern, Fail>
+    ensures { IfOk result (λ pattern. pattern.format ≡ format) }
+{
+    Ok(Pattern {
+        name: name(b"nop")?,
+        file: 0,
+        line: 5,
+        format,
+        bits: 32,
+        fixed_bits: 0,
+        fixed_mask: 0xffff_ffff,
+        ignored: 0,
+        values: ValueList::of(Vec::new(alloc)),
+    })
+}
+
+// A model of these sets, of a format of each, and of one pattern of the second.
+fn model(alloc: Global) -> Result<Model, Fail>
+    ensures { IfOk result (λ model. AreWithin (definitions_in model)) }
+{
+    let formats = vec![in alloc; format(alloc, b"other", 0)?, format(alloc, b"used", 1)?]?;
+    Ok(Model {
+        width: Width::W32,
+        variable: false,
+        sets: SetList::of(sets(alloc)?),
+        formats: FormatList::of(formats),
+        patterns: PatternList::of(vec![in alloc; nop(alloc, 1)?]?),
+        entries: EntryList::of(vec![in alloc; Entry::One(0)]?),
+    })
+}
+
+#[test]
+fn sets_are_declared_with_their_arguments_or_elsewhere(rt: HostRuntime) -> Result<(), Fail> {
+    let alloc = rt.alloc();
+    let model = model(alloc)?;
+    let written = layout(alloc, &Options::default(), &model)?;
+    assert_eq!(rt; written.as_slice(), WITH_SETS.as_bytes());
     Ok(())
 }

@@ -1,13 +1,30 @@
-//! Fields, argument sets, and the rules of pattern files: what the readers and the messages share.
+//! Fields, argument sets, and the rules of pattern files: their types, their tables, and the readers of their lines.
 #![tactic(auto)]
 
+pub mod fault;
 pub mod field;
+pub mod field_lines;
+mod field_tokens;
+pub mod fields;
+mod head;
+pub mod laws;
+mod number;
 pub mod rule;
+pub mod segment;
 pub mod set;
+pub mod set_lines;
+mod set_tokens;
+pub mod sets;
 
-pub use field::{FieldDef, Segment, Segments};
-pub use rule::{Detail, Rule};
-pub use set::{MemberList, SetDef};
+pub use fault::{DefFault, Detail};
+pub use field::FieldDef;
+pub use field_lines::field_line;
+pub use fields::Fields;
+pub use rule::Rule;
+pub use segment::{MOST_SEGMENTS, Segment, Segments};
+pub use set::{MOST_ARGUMENTS, MemberList, SetDef};
+pub use set_lines::args_line;
+pub use sets::Sets;
 
 #[cfg(test)]
 mod tests;

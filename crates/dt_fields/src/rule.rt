@@ -2,22 +2,6 @@
 
 ghost use Rattle.std.specs.Prelude.{◌≡◌};
 
-use dt_lines::Span;
-use dt_values::Name;
-
-/// What a message about a broken rule names beside the rule.
-#[derive(Clone, Copy, Debug, PartialEq, Eq)]
-pub enum Detail {
-    None,
-    /// A token, by its place in the bytes of its file.
-    Text(Span),
-    Named(Name),
-    /// A number, printed in decimal.
-    Number(u64),
-    /// Bits of the word, printed in hexadecimal.
-    Mask(u64),
-}
-
 /// The rules, by their codes: K of files, L of structure, P of field lines, A of set lines,
 /// G of format and pattern lines, H of groups, N of what isn't built. Each says when it is broken.
 #[derive(Clone, Copy, Debug, PartialEq, Eq)]

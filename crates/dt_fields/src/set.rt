@@ -2,6 +2,9 @@
 
 use dt_values::{Items, Member, Name};
 
+/// The most arguments that a set has.
+pub const MOST_ARGUMENTS: usize = 32;
+
 /// The arguments of a set, in order. Contracts see the list of them.
 pub type MemberList = Items<Member>;
 

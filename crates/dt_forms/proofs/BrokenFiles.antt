@@ -8,6 +8,7 @@ use Rattle.dt_lines.specs.declared.fault.LineFault.TheVariants as of_lines
 use Rattle.dt_forms.specs.declared.fault.ModelFault.{ModelFault}
 use Rattle.dt_forms.specs.declared.fault.ModelFault.TheVariants as of_files
 use Rattle.dt_forms.specs.FileFaults.{HaveNoFileFault, fault_in_file, fault_of_files, file_fault, first_broken, model_fault}
+use Rattle.dt_forms.specs.declared.options.Options.{Options}
 use Rattle.dt_forms.specs.Rules.{Fault, first_fault}
 use Rattle.dt_forms.specs.View.{FileBroken}
 
@@ -52,9 +53,9 @@ none_of_files file (text ∷ texts) whole =
     ap (λ o. option_or o (fault_of_files (file + 1) texts)) here
     ∙ none_of_files (file + 1) texts (λ place t h. ap (λ n. file_fault n (get_or texts place t)) (let e : file + 1 + place ≡ file + suc place = omega arith in e) ∙ whole (suc place) t (omega arith))
 
-pub lines_break_first : (width : ℕ) (texts : List (List ℕ)) → HaveNoFileFault texts → first_broken width texts ≡ first_fault width texts
-lines_break_first width texts whole =
-    ap (λ o. option_or o (first_fault width texts))
+pub lines_break_first : (options : Options) (texts : List (List ℕ)) → HaveNoFileFault texts → first_broken options texts ≡ first_fault options texts
+lines_break_first options texts whole =
+    ap (λ o. option_or o (first_fault options texts))
     (none_of_files 0 texts (λ place t h. ap (λ n. file_fault n (get_or texts place t)) (let e : 0 + place ≡ place = omega arith in e) ∙ whole place t h))
 
 -- the first of files that has one
@@ -71,10 +72,10 @@ first_of_files file (suc place) (t ∷ texts) text fault whole h is =
     ∙ first_of_files (file + 1) place texts text fault (λ n low. ap (λ m. file_fault m (get_or texts n text)) (next n) ∙ whole (suc n) (omega arith)) (omega arith)
     (ap (λ m. file_fault m (get_or texts place text)) (next place) ∙ is)
 
-pub file_breaks_first : (width place : ℕ) (texts : List (List ℕ)) (text : List ℕ) (fault : Fault)
+pub file_breaks_first : (options : Options) (place : ℕ) (texts : List (List ℕ)) (text : List ℕ) (fault : Fault)
     → ((earlier : ℕ) → earlier < place → file_fault earlier (get_or texts earlier text) ≡ None)
-    → place < length texts → file_fault place (get_or texts place text) ≡ Some fault → first_broken width texts ≡ Some fault
-file_breaks_first width place texts text fault whole h is =
+    → place < length texts → file_fault place (get_or texts place text) ≡ Some fault → first_broken options texts ≡ Some fault
+file_breaks_first options place texts text fault whole h is =
     let same : (n : ℕ) → 0 + n ≡ n = λ n. omega arith in
-    ap (λ o. option_or o (first_fault width texts))
+    ap (λ o. option_or o (first_fault options texts))
     (first_of_files 0 place texts text fault (λ n low. ap (λ m. file_fault m (get_or texts n text)) (same n) ∙ whole n low) h (ap (λ m. file_fault m (get_or texts place text)) (same place) ∙ is))

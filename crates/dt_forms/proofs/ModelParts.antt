@@ -1,53 +1,36 @@
--- The model that is made of the patterns of files.
-use Rattle.std.proofs.Common.{◌≡◌, ℕ, ◌≤◌, List, [], ◌∷◌, length, map, None, refl, ap, ◌∙◌, sym, arith}
+-- The model that is made of what lines define.
+use Rattle.std.proofs.Common.{◌≡◌, ℕ, List, [], ◌∷◌, length, map, ap, ◌∙◌, sym}
 use Rattle.std.proofs.lemmas.List.{length-map}
-use Rattle.dt_values.specs.Widths.{width_bits}
 use Rattle.dt_fields.specs.declared.set.SetDef.{SetDef}
 use Rattle.dt_forms.specs.declared.form.Format.{Format}
 use Rattle.dt_forms.specs.declared.form.Pattern.{Pattern}
 use Rattle.dt_forms.specs.declared.model.Model.{Model}
 use Rattle.dt_forms.specs.declared.options.Options.{Options}
-use Rattle.dt_forms.specs.declared.reader.TheConstants.{MOST_PATTERNS}
-use Rattle.dt_forms.specs.Models.{Definitions, IsModelOf, sets_of, formats_of}
-use Rattle.dt_forms.specs.Patterns.{PatternLine, pattern_of, pattern_lines, flat_list}
-use Rattle.dt_forms.specs.Rules.{first_fault}
-use Rattle.dt_forms.specs.Trees.{items_of, items_from, numbers_from, one}
-use Rattle.dt_forms.specs.View.{kept_pattern, pattern_seen}
-use Rattle.dt_forms.proofs.UnbrokenLines.{all_few}
-
-seen_kept : (ps : List PatternLine) → map pattern_seen (map kept_pattern ps) ≡ map pattern_of ps
-seen_kept [] = refl
-seen_kept (p ∷ ps) = ap (λ qs. pattern_of p ∷ qs) (seen_kept ps)
-
--- no more patterns than the rules allow
-pub few_patterns : (width : ℕ) (texts : List (List ℕ)) (patterns : List Pattern) (n : ℕ) → n ≡ length patterns → patterns ≡ map kept_pattern (pattern_lines texts) → first_fault width texts ≡ None → n ≤ MOST_PATTERNS
-few_patterns width texts patterns n count are none =
-    let same : length patterns ≡ length (pattern_lines texts) = ap length are ∙ length-map (pattern_lines texts) kept_pattern in
-    omega (arith, all_few width texts none)
+use Rattle.dt_forms.specs.FileLines.{all_lines}
+use Rattle.dt_forms.specs.Models.{Definitions, IsModelOf, IsModelOfScope, definitions_in, definitions_in_scope, flat_list}
+use Rattle.dt_forms.specs.Rules.{scope_before}
+use Rattle.dt_forms.specs.Scope.{Scope}
+use Rattle.dt_forms.specs.Trees.{entries_of, items_of, items_from, numbers_from, one}
+use Rattle.dt_forms.specs.View.{pattern_seen}
 
 abbrev definitions : List SetDef → List Format → List Pattern → Definitions
 definitions sets formats patterns = record { sets = sets; formats = formats; patterns = patterns }
 
-same_definitions : (sets others : List SetDef) (formats other_formats : List Format) (patterns other_patterns : List Pattern)
+pub same_definitions : (sets others : List SetDef) (formats other_formats : List Format) (patterns other_patterns : List Pattern)
     → sets ≡ others → formats ≡ other_formats → patterns ≡ other_patterns
     → definitions sets formats patterns ≡ definitions others other_formats other_patterns
 same_definitions sets others formats other_formats patterns other_patterns e f g = cc
 
-pub model_made : (options : Options) (texts : List (List ℕ)) (model : Model) (patterns : List Pattern) (n : ℕ) → n ≡ length patterns → patterns ≡ map kept_pattern (pattern_lines texts)
-    → model.width ≡ options.width → model.variable ≡ options.variable
-    → model.sets ≡ sets_of options.decode (map pattern_seen patterns)
-    → model.formats ≡ formats_of options.decode (width_bits options.width) (map pattern_seen patterns)
-    → model.patterns ≡ patterns
-    → items_of model.entries ≡ items_from (map one (numbers_from 0 n))
-    → IsModelOf options texts model
-model_made options texts model patterns n count are width variable sets formats kept entries =
-    let flat : map pattern_seen patterns ≡ flat_list texts = ap (map pattern_seen) are ∙ seen_kept (pattern_lines texts) in
-    let listed : n ≡ length (flat_list texts) = count ∙ ap length are ∙ length-map (pattern_lines texts) kept_pattern ∙ sym (length-map (pattern_lines texts) pattern_of) in
-    record {
-      width = width;
-      variable = variable;
-      definitions = same_definitions _ _ _ _ _ _ (sets ∙ ap (sets_of options.decode) flat)
-          (formats ∙ ap (formats_of options.decode (width_bits options.width)) flat) (kept ∙ are);
-      flat = ap (map pattern_seen) kept ∙ flat;
-      entries = entries ∙ ap (λ m. items_from (map one (numbers_from 0 m))) listed;
-    }
+pub entries_made : (patterns : List Pattern) (n : ℕ) (entries all : List Pattern) → n ≡ length all → all ≡ patterns
+    → items_from (map one (numbers_from 0 n)) ≡ entries_of (map pattern_seen patterns)
+entries_made patterns n entries all count are =
+    ap (λ m. items_from (map one (numbers_from 0 m))) (count ∙ ap length are ∙ sym (length-map patterns pattern_seen))
+
+pub model_of_files : (options : Options) (texts : List (List ℕ)) (model : Model) (scope : Scope) → scope ≡ scope_before options (all_lines texts) → IsModelOfScope options scope model → IsModelOf options texts model
+model_of_files options texts model scope is h = record {
+  width = h.width;
+  variable = h.variable;
+  definitions = h.definitions ∙ ap definitions_in_scope is;
+  flat = ap (λ (d : Definitions). map pattern_seen d.patterns) (h.definitions ∙ ap definitions_in_scope is);
+  entries = h.entries ∙ ap (λ (s : Scope). entries_of (map pattern_seen s.patterns)) is;
+}

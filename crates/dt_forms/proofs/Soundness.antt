@@ -1,146 +1,99 @@
 -- The model of files that break no rule is sound.
-use Rattle.std.proofs.Common.{◌≡◌, ℕ, zero, suc, ◌+◌, ◌*◌, ◌^◌, ◌<◌, ◌≤◌, ◌==◌, ◌||◌, Bool, true, false, List, [], ◌∷◌, length, get_or, map, None, refl, ap, ◌∙◌, sym, subst, ⊎_elim, arith, bit_and, add-one}
-use Rattle.std.specs.Prelude.{◌≢◌, if◌then◌else◌}
+use Rattle.std.proofs.Common.{◌≡◌, ◌≢◌, ℕ, zero, suc, ◌+◌, ◌*◌, ◌^◌, ◌<◌, ◌≤◌, List, [], ◌∷◌, ◌++◌, length, get_or, map, None, refl, ap, ◌∙◌, sym, subst, arith, add-one}
+use Rattle.std.specs.Prelude.{IsPermutation}
 use Rattle.std.specs.List.{All, AllPairs}
-use Rattle.std.proofs.Math.Pow.{pow_mono}
-use Rattle.std.proofs.lemmas.Bool.{cases_eq}
-use Rattle.std.proofs.lemmas.Bool.Decides.{nat_tests}
-use Rattle.std.proofs.lemmas.Nat.{and_block}
 use Rattle.std.proofs.lemmas.List.{get_or-map, length-map}
 use Rattle.std.proofs.lemmas.List.Elements.{All-nil, All-cons, All-map, All-same, All-weaker}
 use Rattle.std.proofs.lemmas.List.Sorted.{IsPermutation-refl}
-use Rattle.dt_values.specs.declared.ctype.Member.{Member}
+use Rattle.dt_values.specs.Names.{IsName}
 use Rattle.dt_values.specs.Widths.{width_bits}
+use Rattle.dt_lines.specs.declared.line.Position.{Position}
+use Rattle.dt_fields.specs.SoundSets.{IsSoundSet}
 use Rattle.dt_fields.specs.declared.set.SetDef.{SetDef}
-use Rattle.dt_forms.specs.declared.bits.Digits.TheVariants.{Fixed, Ones, Ignored}
 use Rattle.dt_forms.specs.declared.form.Format.{Format}
 use Rattle.dt_forms.specs.declared.form.Pattern.{Pattern}
 use Rattle.dt_forms.specs.declared.model.Model.{Model}
 use Rattle.dt_forms.specs.declared.options.Options.{Options}
-use Rattle.dt_forms.specs.Models.{Definitions, IsModelOf, sets_of, formats_of, first_set, first_format}
-use Rattle.dt_forms.specs.Patterns.{FlatPattern, PatternLine, fixed_digit, one_digit, ignored_digit, number_of, pattern_of, pattern_lines, flat_list}
-use Rattle.dt_forms.specs.Rules.{first_fault}
-use Rattle.dt_lines.specs.declared.line.Position.{Position}
-use Rattle.dt_forms.specs.Sound.{HasMasks, FormatHasMasks, GivesArguments, HaveOneSet, IsEarlier, IsBefore, IsSound, IsSoundPattern, depth, pattern_position, positions_of}
-use Rattle.dt_forms.specs.CNames.{IsCName}
-use Rattle.dt_forms.specs.Trees.{one, items_from, items_of, numbers_of, numbers_from}
-use Rattle.dt_forms.specs.View.{kept_pattern}
-use Rattle.dt_forms.proofs.BinaryNumbers.{number_below}
-use Rattle.dt_forms.proofs.Entries.{numbers_of_ones}
-use Rattle.dt_forms.proofs.UnbrokenLines.{HasWidth, all_width, all_few}
-use Rattle.dt_forms.proofs.LineOrder.{Pairs, all_pairs, all_rise}
-use Rattle.dt_forms.proofs.OptionNames.{formats_named_of, sets_named_of}
+use Rattle.dt_forms.specs.declared.reader.TheConstants.{MOST_FILES, MOST_PATTERNS}
+use Rattle.dt_forms.specs.FileLines.{FileLine, all_lines}
+use Rattle.dt_forms.specs.Inference.{new_format}
+use Rattle.dt_forms.specs.Models.{Definitions, IsModelOf, definitions_in, definitions_of, flat_list}
 use Rattle.dt_forms.specs.Options.{IsOptionName}
-use Rattle.dt_values.specs.Names.{IsName}
+use Rattle.dt_forms.specs.PatternLines.{set_number}
+use Rattle.dt_forms.specs.Patterns.{FlatPattern, position_of}
+use Rattle.dt_forms.specs.Positions.{first_token_at, leading_token}
+use Rattle.dt_forms.specs.Rules.{faults_from, first_fault, scope_before}
+use Rattle.dt_forms.specs.Scope.{Scope, nothing_defined}
+use Rattle.dt_forms.specs.Sound.{FormatHasMasks, GivesArguments, HasMasks, HaveOneSet, IsBefore, IsEarlier, IsSound, IsSoundPattern, argument_names, depth, given_names, pattern_position, positions_of}
+use Rattle.dt_forms.specs.Trees.{one, items_from, items_of, numbers_of, numbers_from}
+use Rattle.dt_forms.specs.View.{pattern_seen}
+use Rattle.dt_forms.proofs.Additions.{IsSoundFormat, IsSoundOf, members_at, set_at_format}
+use Rattle.dt_forms.proofs.Entries.{numbers_of_ones}
+use Rattle.dt_forms.proofs.Faults.{no_first}
+use Rattle.dt_forms.proofs.LineOrder.{HasFirstToken, IsPlaced, all_found, all_rise, files_few, files_placed}
+use Rattle.dt_forms.proofs.LinePatterns.{IsPatternOn, all_hold, patterns_rise}
+use Rattle.dt_forms.proofs.SoundLines.{IsSoundScope, lines_sound}
 
--- the ones are under the fixed mask, bit by bit
-one_under : (zeros ones : Bool) → bit_and (if ones then 1 else 0) (if zeros || ones then 1 else 0) ≡ (if ones then 1 else 0)
-one_under true true = refl
-one_under true false = refl
-one_under false true = refl
-one_under false false = refl
+abbrev pub AreShort : List (List ℕ) → Type 0
+AreShort texts = All (λ t. length t < 2 ^ 32) texts
 
-ones_under : (bs : List ℕ) → bit_and (number_of one_digit bs) (number_of fixed_digit bs) ≡ number_of one_digit bs
-ones_under [] = refl
-ones_under (b ∷ bs) =
-    and_block (length bs) (one_digit b) (fixed_digit b) (number_of one_digit bs) (number_of fixed_digit bs) (number_below Ones bs) (number_below Fixed bs)
-    ∙ ap (λ d. d * 2 ^ length bs + bit_and (number_of one_digit bs) (number_of fixed_digit bs)) (one_under (b == 48) (b == 49))
-    ∙ ap (λ r. one_digit b * 2 ^ length bs + r) (ones_under bs)
+-- what files define that break no rule
+pub files_sound : (options : Options) (texts : List (List ℕ)) → IsOptionName options.decode → length texts ≤ MOST_FILES → AreShort texts → first_fault options texts ≡ None
+    → IsSoundScope (width_bits options.width) (2 ^ 36) 0 (scope_before options (all_lines texts))
+files_sound options texts decode few short none =
+    let lines : length (all_lines texts) ≤ length texts * 2 ^ 32 = files_few 0 texts short in
+    let within : length (all_lines texts) ≤ 2 ^ 36 = omega arith in
+    lines_sound options (2 ^ 36) decode (omega arith) (all_lines texts) within (no_first (faults_from options nothing_defined (all_lines texts)) none)
 
--- no bit is fixed and ignored
-digit_of_dash : (b : ℕ) → b ≡ 45 → bit_and (fixed_digit b) (ignored_digit b) ≡ 0
-digit_of_dash b e = ap (λ c. bit_and (fixed_digit c) (ignored_digit c)) e
+-- a pattern in one of so many files, on a line with a number that fits in 32 bits
+abbrev IsPlacedPattern : Pattern → Type 0
+IsPlacedPattern p = (p.file < MOST_FILES) × (p.line < 2 ^ 32)
 
-not_ignored : (test other : Bool) → other ≡ false → bit_and (if test then 1 else 0) (if other then 1 else 0) ≡ 0
-not_ignored true other e = ap (λ o. bit_and 1 (if o then 1 else 0)) e
-not_ignored false other e = ap (λ o. bit_and 0 (if o then 1 else 0)) e
+placed_on : (l : FileLine) → IsPlaced MOST_FILES l → (p : Pattern) → IsPatternOn l p → IsPlacedPattern p
+placed_on l h p on =
+    let file : p.file ≡ l.file = ap (λ (a : Position). a.file) on.stands in
+    let line : p.line ≡ l.line.line = ap (λ (a : Position). a.line) on.stands in
+    let low : l.file < MOST_FILES = h.0 in
+    let short : l.line.line < 2 ^ 32 = h.1 in
+    (omega arith, omega arith)
 
-no_dash : (b : ℕ) → (b ≡ 45 → ⊥) → (b == 45) ≡ false
-no_dash b h = grind (arith, nat_tests)
+patterns_placed : (options : Options) (texts : List (List ℕ)) → length texts ≤ MOST_FILES → AreShort texts → All IsPlacedPattern (definitions_of options texts).patterns
+patterns_placed options texts few short =
+    all_hold options IsPlacedPattern (all_lines texts)
+    (All-weaker (IsPlaced MOST_FILES) (λ (l : FileLine). (p : Pattern) → IsPatternOn l p → IsPlacedPattern p) placed_on (all_lines texts) (files_placed MOST_FILES 0 texts (omega arith) short))
 
-digits_apart : (b : ℕ) → bit_and (fixed_digit b) (ignored_digit b) ≡ 0
-digits_apart b = ⊎_elim (λ (e : b ≡ 45). digit_of_dash b e) (λ (h : b ≡ 45 → ⊥). not_ignored (b == 48 || b == 49) (b == 45) (no_dash b h)) (cases_eq b 45)
-
-masks_apart : (bs : List ℕ) → bit_and (number_of fixed_digit bs) (number_of ignored_digit bs) ≡ 0
-masks_apart [] = refl
-masks_apart (b ∷ bs) =
-    and_block (length bs) (fixed_digit b) (ignored_digit b) (number_of fixed_digit bs) (number_of ignored_digit bs) (number_below Fixed bs) (number_below Ignored bs)
-    ∙ ap (λ d. d * 2 ^ length bs + bit_and (number_of fixed_digit bs) (number_of ignored_digit bs)) (digits_apart b)
-    ∙ ap (λ r. 0 * 2 ^ length bs + r) (masks_apart bs)
-    ∙ (let none : 0 * 2 ^ length bs + 0 ≡ 0 = omega arith in none)
-
-pub line_masks : (width : ℕ) (p : PatternLine) → HasWidth width p → HasMasks width (kept_pattern p)
-line_masks width p long = record {
-  fixed_below = subst (λ n. number_of fixed_digit p.digits < 2 ^ n) long (number_below Fixed p.digits);
-  ignored_below = subst (λ n. number_of ignored_digit p.digits < 2 ^ n) long (number_below Ignored p.digits);
-  bits_in_mask = ones_under p.digits;
-  apart = masks_apart p.digits;
+sound_pattern : (width : ℕ) (formats : List Format) (p : Pattern) → IsSoundOf width formats p → IsPlacedPattern p → IsSoundPattern width (pattern_seen p)
+sound_pattern width formats p h placed = record {
+  named = h.named;
+  bits = h.bits;
+  mask_below = h.masks.fixed_below;
+  bits_below = h.below;
+  bits_in_mask = h.masks.bits_in_mask;
+  file_below = let low : p.file < MOST_FILES = placed.0 in omega arith;
+  line_below = placed.1;
 }
 
-all_masks : (width : ℕ) (ps : List PatternLine) → All (HasWidth width) ps → All (HasMasks width) (map kept_pattern ps)
-all_masks width ps h = All-map (HasMasks width) kept_pattern ps (All-weaker (HasWidth width) (λ p. HasMasks width (kept_pattern p)) (λ p k. line_masks width p k) ps h)
+pub flat_list_sound : (options : Options) (texts : List (List ℕ)) → IsOptionName options.decode → length texts ≤ MOST_FILES → AreShort texts → first_fault options texts ≡ None
+    → All (IsSoundPattern (width_bits options.width)) (flat_list options texts)
+flat_list_sound options texts decode few short none =
+    let scope : Scope = scope_before options (all_lines texts) in
+    let sound = files_sound options texts decode few short none in
+    let placed = patterns_placed options texts few short in
+    All-map (IsSoundPattern (width_bits options.width)) pattern_seen scope.patterns
+    (λ k d below. sound_pattern (width_bits options.width) scope.formats (get_or scope.patterns k d) (sound.patterns k d below) (placed k d below))
 
-all_bits : (width : ℕ) (ps : List PatternLine) → All (HasWidth width) ps → All (λ p. p.bits ≡ width) (map kept_pattern ps)
-all_bits width ps h = All-map (λ (p : Pattern). p.bits ≡ width) kept_pattern ps h
+-- the name of a pattern is the first token at its position
+abbrev IsNamedIn : List (List ℕ) → Pattern → Type 0
+IsNamedIn texts p = first_token_at texts (pattern_position p) ≡ p.name
 
--- the sets and formats of these patterns
-some_power : (n : ℕ) → 0 < 2 ^ n
-some_power n =
-    let least : 0 ≤ n = omega arith in
-    let more : 2 ^ 0 ≤ 2 ^ n = pow_mono least in
-    omega arith
+named_on : (texts : List (List ℕ)) (l : FileLine) → HasFirstToken texts l → (p : Pattern) → IsPatternOn l p → IsNamedIn texts p
+named_on texts l h p on = ap (first_token_at texts) on.stands ∙ h ∙ on.name
 
-format_masks_of : (decode : List ℕ) (width : ℕ) (ps : List FlatPattern) → All (FormatHasMasks width) (formats_of decode width ps)
-format_masks_of decode width [] = All-nil (FormatHasMasks width)
-format_masks_of decode width (p ∷ ps) = All-cons (FormatHasMasks width) (first_format decode width) [] (record { fixed_below = some_power width; ignored_below = some_power width; bits_in_mask = refl; apart = refl }) (All-nil (FormatHasMasks width))
-
-set_numbers_of : (decode : List ℕ) (width : ℕ) (ps : List FlatPattern) → All (λ f. f.set < length (sets_of decode ps)) (formats_of decode width ps)
-set_numbers_of decode width [] = All-nil (λ (f : Format). f.set < 0)
-set_numbers_of decode width (p ∷ ps) = All-cons (λ (f : Format). f.set < 1) (first_format decode width) [] (omega arith) (All-nil (λ (f : Format). f.set < 1))
-
-format_numbers_of : (decode : List ℕ) (width : ℕ) (ps : List PatternLine) → All (λ p. p.format < length (formats_of decode width (map pattern_of ps))) (map kept_pattern ps)
-format_numbers_of decode width [] = All-nil (λ (p : Pattern). p.format < 0)
-format_numbers_of decode width (p ∷ ps) = All-map (λ (q : Pattern). q.format < 1) kept_pattern (p ∷ ps) (λ k d h. omega arith)
-
-set_names_of : (decode : List ℕ) (ps : List FlatPattern) → AllPairs (λ s t. s.name ≢ t.name) (sets_of decode ps)
-set_names_of decode [] = all_pairs (λ (s t : SetDef). s.name ≢ t.name) [] tt
-set_names_of decode (p ∷ ps) = all_pairs (λ (s t : SetDef). s.name ≢ t.name) (first_set decode ∷ []) (All-nil (λ (t : SetDef). (first_set decode).name ≢ t.name), tt)
-
-format_names_of : (decode : List ℕ) (width : ℕ) (ps : List FlatPattern) → AllPairs (λ f g. f.name ≢ g.name) (formats_of decode width ps)
-format_names_of decode width [] = all_pairs (λ (f g : Format). f.name ≢ g.name) [] tt
-format_names_of decode width (p ∷ ps) = all_pairs (λ (f g : Format). f.name ≢ g.name) (first_format decode width ∷ []) (All-nil (λ (g : Format). (first_format decode width).name ≢ g.name), tt)
-
-one_set_of : (formats : List Format) (ps : List PatternLine) → Pairs (HaveOneSet formats) (map kept_pattern ps)
-one_set_of formats [] = tt
-one_set_of formats (p ∷ ps) = (All-map (HaveOneSet formats (kept_pattern p)) kept_pattern ps (λ k d h same. refl), one_set_of formats ps)
-
-few_arguments_of : (decode : List ℕ) (ps : List FlatPattern) → All (λ s. length s.members ≤ 32) (sets_of decode ps)
-few_arguments_of decode [] = All-nil (λ (s : SetDef). length s.members ≤ 32)
-few_arguments_of decode (p ∷ ps) = All-cons (λ (s : SetDef). length s.members ≤ 32) (first_set decode) [] (omega arith) (All-nil (λ (s : SetDef). length s.members ≤ 32))
-
-abbrev HasDifferentArguments : SetDef → Type 0
-HasDifferentArguments s = AllPairs (λ a b. a.name ≢ b.name) s.members
-
-different_arguments_of : (decode : List ℕ) (ps : List FlatPattern) → All HasDifferentArguments (sets_of decode ps)
-different_arguments_of decode [] = All-nil HasDifferentArguments
-different_arguments_of decode (p ∷ ps) = All-cons HasDifferentArguments (first_set decode) [] (all_pairs (λ (a b : Member). a.name ≢ b.name) [] tt) (All-nil HasDifferentArguments)
-
-abbrev HasCNames : SetDef → Type 0
-HasCNames s = All (λ m. IsCName m.name) s.members
-
-c_names_of : (decode : List ℕ) (ps : List FlatPattern) → All HasCNames (sets_of decode ps)
-c_names_of decode [] = All-nil HasCNames
-c_names_of decode (p ∷ ps) = All-cons HasCNames (first_set decode) [] (All-nil (λ (m : Member). IsCName m.name)) (All-nil HasCNames)
-
--- a pattern of bits alone gives no value, and its set has no argument
-no_argument : (decode : List ℕ) (width : ℕ) (ps : List FlatPattern) (p : PatternLine) → GivesArguments (sets_of decode ps) (formats_of decode width ps) (kept_pattern p)
-no_argument decode width [] p = IsPermutation-refl []
-no_argument decode width (q ∷ ps) p = IsPermutation-refl []
-
-values_of : (decode : List ℕ) (width : ℕ) (ps : List PatternLine) → All (GivesArguments (sets_of decode (map pattern_of ps)) (formats_of decode width (map pattern_of ps))) (map kept_pattern ps)
-values_of decode width ps =
-    let P : Pattern → Type 0 = GivesArguments (sets_of decode (map pattern_of ps)) (formats_of decode width (map pattern_of ps)) in
-    All-map P kept_pattern ps (λ k d h. no_argument decode width (map pattern_of ps) (get_or ps k d))
+pub names_of_patterns : (options : Options) (texts : List (List ℕ)) → All (λ p. first_token_at texts (position_of p) ≡ p.name) (flat_list options texts)
+names_of_patterns options texts =
+    All-map (λ (p : FlatPattern). first_token_at texts (position_of p) ≡ p.name) pattern_seen (definitions_of options texts).patterns
+    (all_hold options (IsNamedIn texts) (all_lines texts)
+    (All-weaker (HasFirstToken texts) (λ (l : FileLine). (p : Pattern) → IsPatternOn l p → IsNamedIn texts p) (named_on texts) (all_lines texts) (all_found texts)))
 
 -- patterns alone have no depth
 depth_of_ones : (ns : List ℕ) → depth (items_from (map one ns)) ≡ 0
@@ -184,39 +137,91 @@ numbers_below : (n m bound : ℕ) → n + m ≤ bound → All (λ k. k < bound) 
 numbers_below n zero bound h = All-nil (λ k. k < bound)
 numbers_below n (suc m) bound h = All-cons (λ k. k < bound) n (numbers_from (n + 1) m) (omega arith) (numbers_below (n + 1) m bound (omega arith))
 
-pub sound_model : (options : Options) (texts : List (List ℕ)) (model : Model) → IsOptionName options.decode → All (IsSoundPattern (width_bits options.width)) (flat_list texts) → IsModelOf options texts model → first_fault (width_bits options.width) texts ≡ None → IsSound model
-sound_model options texts model decode sound h none =
-    let sets : model.sets ≡ sets_of options.decode (flat_list texts) = ap (λ (d : Definitions). d.sets) h.definitions in
-    let formats : model.formats ≡ formats_of options.decode (width_bits options.width) (flat_list texts) = ap (λ (d : Definitions). d.formats) h.definitions in
-    let kept : model.patterns ≡ map kept_pattern (pattern_lines texts) = ap (λ (d : Definitions). d.patterns) h.definitions in
-    let width : width_bits model.width ≡ width_bits options.width = ap width_bits h.width in
-    let wide : All (HasWidth (width_bits model.width)) (pattern_lines texts) = all_width (width_bits model.width) texts (subst (λ w. first_fault w texts ≡ None) (sym width) none) in
-    let count : length model.patterns ≡ length (pattern_lines texts) = ap length kept ∙ length-map (pattern_lines texts) kept_pattern in
-    let listed : length (flat_list texts) ≡ length model.patterns = length-map (pattern_lines texts) pattern_of ∙ sym count in
-    let once : numbers_of (items_of model.entries) ≡ numbers_from 0 (length model.patterns) = ap numbers_of h.entries ∙ numbers_of_ones (numbers_from 0 (length (flat_list texts))) ∙ ap (numbers_from 0) listed in
-    let rising : AllPairs IsBefore model.patterns = subst (λ (ps : List Pattern). AllPairs IsBefore ps) (sym kept) (all_rise texts) in
-    let ones : items_of model.entries ≡ items_from (map one (numbers_from 0 (length model.patterns))) = h.entries ∙ ap (λ n. items_from (map one (numbers_from 0 n))) listed in
-    let values : All (GivesArguments (sets_of options.decode (flat_list texts)) (formats_of options.decode (width_bits options.width) (flat_list texts))) model.patterns = All-same (GivesArguments (sets_of options.decode (flat_list texts)) (formats_of options.decode (width_bits options.width) (flat_list texts))) model.patterns _ kept (values_of options.decode (width_bits options.width) (pattern_lines texts)) in
+-- what a decoder is made of, without the groups
+record AreSoundParts (width : ℕ) (d : Definitions) : Type 0 where
+  masks : All (HasMasks width) d.patterns
+  format_masks : All (FormatHasMasks width) d.formats
+  set_numbers : All (λ f. f.set < length d.sets) d.formats
+  format_numbers : All (λ p. p.format < length d.formats) d.patterns
+  few : length d.patterns ≤ MOST_PATTERNS
+  sets_sound : All IsSoundSet d.sets
+  positions : AllPairs IsBefore d.patterns
+  whole_words : All (λ p. p.bits ≡ width) d.patterns
+  flat_sound : All (IsSoundPattern width) (map pattern_seen d.patterns)
+  set_names : AllPairs (λ s t. s.name ≢ t.name) d.sets
+  formats_named : All (λ f. IsName f.name) d.formats
+  format_names : AllPairs (λ f g. f.name ≢ g.name) d.formats
+  one_set : AllPairs (HaveOneSet d.formats) d.patterns
+  values : All (GivesArguments d.sets d.formats) d.patterns
+  format_values : All (λ f. f.values ≡ []) d.formats
+  pattern_values : All (λ p. p.values ≡ []) d.patterns
+
+-- a pattern gives no value, and its set has no argument
+no_argument : (width : ℕ) (sets : List SetDef) (formats : List Format) (p : Pattern) → All (IsSoundFormat width sets) formats → IsSoundOf width formats p → GivesArguments sets formats p
+no_argument width sets formats p all h =
+    let d : Format = new_format 0 [] 0 in
+    let f : Format = get_or formats p.format d in
+    let sound : IsSoundFormat width sets f = all p.format d h.format in
+    let values : get_or (map (λ (g : Format). g.values) formats) p.format [] ≡ [] = get_or-map (λ (g : Format). g.values) formats p.format d [] h.format ∙ sound.values in
+    let number : set_at_format formats p.format ≡ f.set = get_or-map (λ (g : Format). g.set) formats p.format d 0 h.format in
+    let members : members_at sets (set_at_format formats p.format) ≡ [] = ap (members_at sets) number ∙ sound.members in
+    let given : given_names formats p ≡ [] = ap (λ vs. map (λ v. v.0) (vs ++ p.values)) values ∙ ap (map (λ v. v.0)) h.values in
+    let arguments : argument_names sets formats p ≡ [] = ap (map (λ m. m.name)) members in
+    subst (λ xs. IsPermutation xs (argument_names sets formats p)) (sym given) (subst (IsPermutation []) (sym arguments) (IsPermutation-refl []))
+
+parts_sound : (options : Options) (texts : List (List ℕ)) → IsOptionName options.decode → length texts ≤ MOST_FILES → AreShort texts → first_fault options texts ≡ None
+    → AreSoundParts (width_bits options.width) (definitions_of options texts)
+parts_sound options texts decode few short none =
+    let scope : Scope = scope_before options (all_lines texts) in
+    let width : ℕ = width_bits options.width in
+    let sound = files_sound options texts decode few short none in
     record {
-      masks = All-same (HasMasks (width_bits model.width)) model.patterns (map kept_pattern (pattern_lines texts)) kept (all_masks (width_bits model.width) (pattern_lines texts) wide);
-      format_masks = subst (λ w. All (FormatHasMasks w) model.formats) (sym width) (All-same (FormatHasMasks (width_bits options.width)) model.formats _ formats (format_masks_of options.decode (width_bits options.width) (flat_list texts)));
-      set_numbers = subst (λ (ss : List SetDef). All (λ f. f.set < length ss) model.formats) (sym sets) (All-same (λ (f : Format). f.set < length (sets_of options.decode (flat_list texts))) model.formats _ formats (set_numbers_of options.decode (width_bits options.width) (flat_list texts)));
-      format_numbers = subst (λ (fs : List Format). All (λ p. p.format < length fs) model.patterns) (sym formats) (All-same (λ (p : Pattern). p.format < length (formats_of options.decode (width_bits options.width) (flat_list texts))) model.patterns _ kept (format_numbers_of options.decode (width_bits options.width) (pattern_lines texts)));
+      masks = λ k d below. (sound.patterns k d below).masks;
+      format_masks = λ k d below. (sound.formats k d below).masks;
+      set_numbers = λ k d below. (sound.formats k d below).set;
+      format_numbers = λ k d below. (sound.patterns k d below).format;
+      few = sound.few;
+      sets_sound = sound.sets;
+      positions = patterns_rise options (all_lines texts) (all_rise texts);
+      whole_words = λ k d below. (sound.patterns k d below).bits;
+      flat_sound = flat_list_sound options texts decode few short none;
+      set_names = sound.sets_differ;
+      formats_named = λ k d below. (sound.formats k d below).named;
+      format_names = sound.formats_differ;
+      one_set = sound.one_set;
+      values = λ k d below. no_argument width scope.sets scope.formats (get_or scope.patterns k d) sound.formats (sound.patterns k d below);
+      format_values = λ k d below. (sound.formats k d below).values;
+      pattern_values = λ k d below. (sound.patterns k d below).values;
+    }
+
+pub sound_model : (options : Options) (texts : List (List ℕ)) (model : Model) → IsOptionName options.decode → length texts ≤ MOST_FILES → AreShort texts → first_fault options texts ≡ None
+    → IsModelOf options texts model → IsSound model
+sound_model options texts model decode few short none h =
+    let of_files : AreSoundParts (width_bits options.width) (definitions_in model) = subst (AreSoundParts (width_bits options.width)) (sym h.definitions) (parts_sound options texts decode few short none) in
+    let parts : AreSoundParts (width_bits model.width) (definitions_in model) = subst (λ w. AreSoundParts (width_bits w) (definitions_in model)) (sym h.width) of_files in
+    let kept : model.patterns ≡ (definitions_of options texts).patterns = ap (λ (d : Definitions). d.patterns) h.definitions in
+    let listed : length (flat_list options texts) ≡ length model.patterns = length-map (definitions_of options texts).patterns pattern_seen ∙ sym (ap length kept) in
+    let once : numbers_of (items_of model.entries) ≡ numbers_from 0 (length model.patterns) = ap numbers_of h.entries ∙ numbers_of_ones (numbers_from 0 (length (flat_list options texts))) ∙ ap (numbers_from 0) listed in
+    let ones : items_of model.entries ≡ items_from (map one (numbers_from 0 (length model.patterns))) = h.entries ∙ ap (λ n. items_from (map one (numbers_from 0 n))) listed in
+    record {
+      masks = parts.masks;
+      format_masks = parts.format_masks;
+      set_numbers = parts.set_numbers;
+      format_numbers = parts.format_numbers;
       pattern_numbers = All-same (λ n. n < length model.patterns) (numbers_of (items_of model.entries)) _ once (numbers_below 0 (length model.patterns) (length model.patterns) (omega arith));
       each_once = once;
-      few = omega (arith, all_few (width_bits options.width) texts none);
-      few_arguments = All-same (λ (s : SetDef). length s.members ≤ 32) model.sets _ sets (few_arguments_of options.decode (flat_list texts));
+      few = parts.few;
+      sets_sound = parts.sets_sound;
       nested = omega (arith, ap depth ones, depth_of_ones (numbers_from 0 (length model.patterns)));
-      positions = rising;
-      whole_words = All-same (λ (p : Pattern). p.bits ≡ width_bits model.width) model.patterns (map kept_pattern (pattern_lines texts)) kept (all_bits (width_bits model.width) (pattern_lines texts) wide);
-      flat_sound = subst (λ (ps : List FlatPattern). All (IsSoundPattern (width_bits model.width)) ps) (sym h.flat) (subst (λ w. All (IsSoundPattern w) (flat_list texts)) (sym width) sound);
-      sets_named = All-same (λ (s : SetDef). IsName s.name) model.sets _ sets (sets_named_of options.decode (flat_list texts) decode);
-      set_names = subst (λ (ss : List SetDef). AllPairs (λ s t. s.name ≢ t.name) ss) (sym sets) (set_names_of options.decode (flat_list texts));
-      formats_named = All-same (λ (f : Format). IsName f.name) model.formats _ formats (formats_named_of options.decode (width_bits options.width) (flat_list texts) decode);
-      format_names = subst (λ (fs : List Format). AllPairs (λ f g. f.name ≢ g.name) fs) (sym formats) (format_names_of options.decode (width_bits options.width) (flat_list texts));
-      one_set = subst (λ (ps : List Pattern). AllPairs (HaveOneSet model.formats) ps) (sym kept) (all_pairs (HaveOneSet model.formats) (map kept_pattern (pattern_lines texts)) (one_set_of model.formats (pattern_lines texts)));
-      different_arguments = All-same HasDifferentArguments model.sets _ sets (different_arguments_of options.decode (flat_list texts));
-      c_names = All-same HasCNames model.sets _ sets (c_names_of options.decode (flat_list texts));
-      values = subst (λ (ss : List SetDef). All (GivesArguments ss model.formats) model.patterns) (sym sets) (subst (λ (fs : List Format). All (GivesArguments (sets_of options.decode (flat_list texts)) fs) model.patterns) (sym formats) values);
-      entry_positions = subst (λ (bs : List Position). AllPairs IsEarlier bs) (sym (ap (positions_of model.patterns) ones ∙ positions_of_patterns model.patterns)) (positions_rise model.patterns rising);
+      positions = parts.positions;
+      whole_words = parts.whole_words;
+      flat_sound = parts.flat_sound;
+      set_names = parts.set_names;
+      formats_named = parts.formats_named;
+      format_names = parts.format_names;
+      one_set = parts.one_set;
+      values = parts.values;
+      format_values = parts.format_values;
+      pattern_values = parts.pattern_values;
+      entry_positions = subst (λ (bs : List Position). AllPairs IsEarlier bs) (sym (ap (positions_of model.patterns) ones ∙ positions_of_patterns model.patterns)) (positions_rise model.patterns parts.positions);
     }

@@ -5,12 +5,14 @@ use Rattle.dt_lines.specs.declared.scan.TheConstants.{MOST_LINES}
 use Rattle.dt_lines.specs.Faults.{FileFault, too_many_lines, long_name, line_fault}
 use Rattle.dt_lines.specs.declared.fault.LineFault.{LineFault}
 use Rattle.dt_lines.specs.declared.fault.LineFault.TheVariants as of_lines
-use Rattle.dt_fields.specs.declared.rule.Detail.TheVariants as detail
+use Rattle.dt_fields.specs.declared.fault.Detail.TheVariants as detail
 use Rattle.dt_fields.specs.declared.rule.Rule.{Rule}
 use Rattle.dt_fields.specs.declared.rule.Rule.TheVariants as rule
 use Rattle.dt_forms.specs.declared.fault.ModelFault.{ModelFault}
 use Rattle.dt_forms.specs.declared.fault.ModelFault.TheVariants as of_files
-use Rattle.dt_forms.specs.Rules.{Fault, nothing, first_fault}
+use Rattle.dt_fields.specs.Faults.{nothing}
+use Rattle.dt_forms.specs.declared.options.Options.{Options}
+use Rattle.dt_forms.specs.Rules.{Fault, first_fault}
 
 -- in the file at this place: K1 at the first line that is one too many, K2 at the line of a long name
 abbrev pub fault_in_file : ℕ → FileFault → Fault
@@ -27,8 +29,8 @@ fault_of_files file [] = None
 fault_of_files file (text ∷ texts) = option_or (file_fault file text) (fault_of_files (file + 1) texts)
 
 -- what files break first: K1 and K2 come before all rules of lines
-abbrev pub first_broken : ℕ → List (List ℕ) → Option Fault
-first_broken width texts = option_or (fault_of_files 0 texts) (first_fault width texts)
+abbrev pub first_broken : Options → List (List ℕ) → Option Fault
+first_broken options texts = option_or (fault_of_files 0 texts) (first_fault options texts)
 
 -- no file has too many lines or a long name
 abbrev pub HaveNoFileFault : List (List ℕ) → Type 0

@@ -4,7 +4,7 @@ use Rattle.std.specs.Char.{is_ascii_alphabetic}
 use Rattle.std.specs.List.{list_all}
 use Rattle.dt_values.specs.Names.{is_name_byte}
 use Rattle.dt_values.specs.declared.width.Width.TheVariants.{W32}
-use Rattle.dt_forms.specs.CNames.{is_keyword}
+use Rattle.dt_fields.specs.CNames.{is_keyword}
 use Rattle.dt_forms.specs.declared.options.Options.{Options}
 
 -- a letter or an underscore, and then name bytes

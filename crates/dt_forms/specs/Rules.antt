@@ -1,97 +1,111 @@
--- The rules of the lines of pattern files, as decodetree.py checks them, for lines of a name and bits. The order of the rules is this project's.
-use Rattle.std.specs.Prelude.{ℕ, ◌+◌, ◌-◌, ◌*◌, ◌^◌, ◌==◌, ◌||◌, nat_lt, Bool, true, false, List, [], ◌∷◌, ◌++◌, length, map, filter_map, Option, Some, None, codes, not, bit_or, bit_xor, if◌then◌else◌}
-use Rattle.std.specs.List.{concat, list_all, list_any}
-use Rattle.dt_values.specs.Names.{is_name}
-use Rattle.dt_values.specs.Types.{is_text}
+-- The rules of the lines of pattern files, as decodetree.py checks them. The order of the rules is this project's.
+use Rattle.std.specs.Prelude.{ℕ, ◌==◌, ◌&&◌, nat_le, Bool, true, false, not}
+use Rattle.std.specs.Prelude.{List, [], ◌∷◌, ◌++◌, length, map, Option, Some, None}
+use Rattle.std.specs.List.{list_all, list_any}
+use Rattle.dt_values.specs.Widths.{width_bits}
 use Rattle.dt_lines.specs.Lines.{Line}
-use Rattle.dt_fields.specs.declared.rule.Rule.{Rule}
+use Rattle.dt_lines.specs.declared.line.Position.{Position}
 use Rattle.dt_fields.specs.declared.rule.Rule.TheVariants as rule
+use Rattle.dt_fields.specs.Faults.{Broken, where_broken, nothing, token, number, first}
+use Rattle.dt_fields.specs.FieldLines.{field_line_faults, line_field}
+use Rattle.dt_fields.specs.SetLines.{set_line_faults, line_set}
+use Rattle.dt_forms.specs.declared.head.Head.{Head}
+use Rattle.dt_forms.specs.declared.head.Head.TheVariants as head
+use Rattle.dt_forms.specs.declared.options.Options.{Options}
 use Rattle.dt_forms.specs.declared.reader.TheConstants.{MOST_PATTERNS}
-use Rattle.dt_forms.specs.Patterns.{FileLine, all_lines, fixed_digit, ignored_digit, number_of, pattern_on}
+use Rattle.dt_forms.specs.Bits.{is_bit}
+use Rattle.dt_forms.specs.FileLines.{FileLine, all_lines, line_position}
+use Rattle.dt_forms.specs.Heads.{head_of}
+use Rattle.dt_forms.specs.PatternLines.{after_pattern, pattern_faults}
+use Rattle.dt_forms.specs.Scope.{Scope, nothing_defined, pattern_names}
 
--- what a message names beside the rule: nothing, a token of the line or a name by its bytes, a number, or bits of the word
-pub data Detail : Type 0 where
-  nothing : Detail
-  token : List ℕ → Detail
-  named : List ℕ → Detail
-  number : ℕ → Detail
-  mask : ℕ → Detail
+abbrev pub has_other_byte : List ℕ → Bool
+has_other_byte text = not (list_all is_bit text)
 
--- a rule that a line breaks, with its detail
-abbrev pub Broken : Type 0
-Broken = Rule × Detail
+-- N2: a group's mark or `@` begins the line, or a later token of a pattern line has a byte that stands for no bit
+abbrev pub is_not_built : List (List ℕ) → Head → Bool
+is_not_built rest head.Group = true
+is_not_built rest head.Format = true
+is_not_built rest (head.Field name) = false
+is_not_built rest (head.Set name) = false
+is_not_built rest (head.Pattern name) = list_any has_other_byte rest
+is_not_built rest head.None = false
 
--- what the lines before a line have made, in all files so far: how many patterns
-pub record Scope : Type 0 where
-  pub patterns : ℕ
+abbrev pub is_no_head : Head → Bool
+is_no_head head.Group = false
+is_no_head head.Format = false
+is_no_head (head.Field name) = false
+is_no_head (head.Set name) = false
+is_no_head (head.Pattern name) = false
+is_no_head head.None = true
 
--- a row of the list of rules: it is there where the rule is broken
-abbrev pub where_broken : Bool → Broken → List Broken
-where_broken true b = b ∷ []
-where_broken false b = []
+-- L9: as many patterns as there may be came before
+abbrev pub is_one_too_many : Scope → Head → Bool
+is_one_too_many scope head.Group = false
+is_one_too_many scope head.Format = false
+is_one_too_many scope (head.Field name) = false
+is_one_too_many scope (head.Set name) = false
+is_one_too_many scope (head.Pattern name) = nat_le MOST_PATTERNS (length scope.patterns)
+is_one_too_many scope head.None = false
 
--- a brace or a bracket alone
-abbrev pub is_group_mark : List ℕ → Bool
-is_group_mark text = is_text text (codes "{") || (is_text text (codes "}") || (is_text text (codes "[") || is_text text (codes "]")))
+-- the rules of structure; no group can be open
+abbrev pub structure_rows : Scope → ℕ → List ℕ → List (List ℕ) → Head → List Broken
+structure_rows scope indent first rest h =
+    where_broken (is_not_built rest h) (rule.N2, nothing)
+    ++ (where_broken (not (indent == 0)) (rule.L1, number indent)
+    ++ (where_broken (is_no_head h) (rule.L7, token first)
+    ++ where_broken (is_one_too_many scope h) (rule.L9, token first)))
 
--- the token of a definition of a field, a set or a format: it begins with `%`, `&` or `@`
-abbrev pub defines : List ℕ → Bool
-defines [] = false
-defines (b ∷ bs) = b == 37 || (b == 38 || b == 64)
+-- the rules of what a line defines
+abbrev pub definition_faults : Options → Scope → List ℕ → List (List ℕ) → Head → List Broken
+definition_faults options scope first rest head.Group = []
+definition_faults options scope first rest head.Format = []
+definition_faults options scope first rest (head.Field name) =
+    field_line_faults (width_bits options.width) scope.fields (first ∷ rest)
+definition_faults options scope first rest (head.Set name) =
+    set_line_faults scope.sets (pattern_names scope.patterns) (first ∷ rest)
+definition_faults options scope first rest (head.Pattern name) = pattern_faults options scope name rest
+definition_faults options scope first rest head.None = []
 
--- a byte that stands for a bit: `0`, `1`, `.` or `-`
-abbrev pub is_bit : ℕ → Bool
-is_bit b = b == 48 || (b == 49 || (b == 46 || b == 45))
+abbrev pub head_faults : Options → Scope → ℕ → List ℕ → List (List ℕ) → Head → List Broken
+head_faults options scope indent first rest h =
+    structure_rows scope indent first rest h ++ definition_faults options scope first rest h
 
-abbrev pub is_other_token : List ℕ → Bool
-is_other_token text = not (list_all is_bit text)
+-- the rules that a line with these tokens breaks, in order; a line without tokens has L1 alone
+abbrev pub faults_in : Options → Scope → ℕ → List (List ℕ) → List Broken
+faults_in options scope indent [] = where_broken (not (indent == 0)) (rule.L1, number indent)
+faults_in options scope indent (first ∷ rest) = head_faults options scope indent first rest (head_of first)
 
--- N2: a group's mark or a definition stands first, or a later token has a byte that stands for no bit
-abbrev pub is_not_built : List ℕ → List (List ℕ) → Bool
-is_not_built first tokens = is_group_mark first || (defines first || list_any is_other_token tokens)
+-- those of a line, which sees what the lines before it define
+abbrev pub faults_of_line : Options → Scope → Line → List Broken
+faults_of_line options scope l = faults_in options scope l.indent l.tokens
 
--- L1: no group can be open
-abbrev pub is_indented : ℕ → Bool
-is_indented indent = not (indent == 0)
+-- what a line adds
+abbrev pub after_head : Options → Scope → Position → List ℕ → List (List ℕ) → Head → Scope
+after_head options scope position first rest head.Group = scope
+after_head options scope position first rest head.Format = scope
+after_head options scope position first rest (head.Field name) =
+    record scope { fields = scope.fields ++ line_field (first ∷ rest) ∷ [] }
+after_head options scope position first rest (head.Set name) =
+    record scope { sets = scope.sets ++ line_set (first ∷ rest) ∷ [] }
+after_head options scope position first rest (head.Pattern name) = after_pattern options scope position name rest
+after_head options scope position first rest head.None = scope
 
--- L9: as many patterns as may be came before
-abbrev pub is_full : Scope → Bool
-is_full scope = scope.patterns == MOST_PATTERNS
+abbrev pub after_tokens : Options → Scope → Position → List (List ℕ) → Scope
+after_tokens options scope position [] = scope
+after_tokens options scope position (first ∷ rest) = after_head options scope position first rest (head_of first)
 
--- what comes before the rules of the tokens behind the first one
-abbrev pub head_faults : Scope → ℕ → List ℕ → List (List ℕ) → List Broken
-head_faults scope indent first tokens =
-    where_broken (is_not_built first tokens) (rule.N2, nothing)
-    ++ (where_broken (is_indented indent) (rule.L1, number indent)
-    ++ (where_broken (not (is_name first)) (rule.L7, token first)
-    ++ where_broken (is_full scope) (rule.L9, token first)))
+abbrev pub after_line : Options → Scope → FileLine → Scope
+after_line options scope l = after_tokens options scope (line_position l) l.line.tokens
 
--- the first of these tokens that brings the bits over the width, behind so many bits
-abbrev pub token_faults : ℕ → ℕ → List (List ℕ) → List Broken
-token_faults width count [] = []
-token_faults width count (t ∷ ts) = if nat_lt width (count + length t) then (rule.G8, token t) ∷ [] else token_faults width (count + length t) ts
+-- what lines define, behind others
+abbrev pub after_lines : Options → Scope → List FileLine → Scope
+after_lines options scope [] = scope
+after_lines options scope (l ∷ ls) = after_lines options (after_line options scope l) ls
 
--- binary digits laid from the most significant end of a word
-abbrev pub laid : ℕ → (ℕ → ℕ) → List ℕ → ℕ
-laid width digit bits = number_of digit bits * 2 ^ (width - length bits)
-
--- the bits of the word that are neither fixed nor ignored
-abbrev pub bits_left : ℕ → List ℕ → ℕ
-bits_left width bits = bit_xor (2 ^ width - 1) (bit_or (laid width fixed_digit bits) (laid width ignored_digit bits))
-
--- the rules of the whole line
-abbrev pub whole_faults : ℕ → List ℕ → List Broken
-whole_faults width bits =
-    where_broken (not (length bits == width)) (rule.G9, number (length bits))
-    ++ where_broken (not (bits_left width bits == 0)) (rule.G21, mask (bits_left width bits))
-
--- the rules that a line with these tokens breaks, in order
-abbrev pub faults_in : ℕ → Scope → ℕ → List (List ℕ) → List Broken
-faults_in width scope indent [] = where_broken (is_indented indent) (rule.L1, number indent)
-faults_in width scope indent (first ∷ tokens) = head_faults scope indent first tokens ++ (token_faults width 0 tokens ++ whole_faults width (concat tokens))
-
-abbrev pub faults_of_line : ℕ → Scope → Line → List Broken
-faults_of_line width scope l = faults_in width scope l.indent l.tokens
+-- what the lines before a line define
+abbrev pub scope_before : Options → List FileLine → Scope
+scope_before options lines = after_lines options nothing_defined lines
 
 -- a fault: the place of the file, from 0, the line, and the rule with its detail
 pub record Fault : Type 0 where
@@ -99,26 +113,15 @@ pub record Fault : Type 0 where
   pub line : ℕ
   pub broken : Broken
 
-abbrev pub first : {A : Type 0} → List A → Option A
-first [] = None
-first (x ∷ xs) = Some x
-
--- what the lines before a line have made: how many pattern lines are among them
-abbrev pub scope_before : List FileLine → Scope
-scope_before lines = record { patterns = length (filter_map pattern_on lines) }
-
 abbrev pub fault_on : FileLine → Broken → Fault
 fault_on l b = record { file = l.file; line = l.line.line; broken = b }
 
--- the faults of a line: its rules see what the lines before it have made
-abbrev pub faults_on : ℕ → List FileLine → FileLine → List Fault
-faults_on width before l = map (fault_on l) (faults_of_line width (scope_before before) l.line)
-
--- the faults of the lines that follow these before them, in order of line and rule
-abbrev pub faults_from : ℕ → List FileLine → List FileLine → List Fault
-faults_from width before [] = []
-faults_from width before (l ∷ ls) = faults_on width before l ++ faults_from width (before ++ l ∷ []) ls
+-- the faults of lines, in order of line and rule; the first sees this scope, and each other also what those before it add
+abbrev pub faults_from : Options → Scope → List FileLine → List Fault
+faults_from options scope [] = []
+faults_from options scope (l ∷ ls) =
+    map (fault_on l) (faults_of_line options scope l.line) ++ faults_from options (after_line options scope l) ls
 
 -- the first rule of the least line that breaks one, in files of which the first has place 0
-abbrev pub first_fault : ℕ → List (List ℕ) → Option Fault
-first_fault width texts = first (faults_from width [] (all_lines texts))
+abbrev pub first_fault : Options → List (List ℕ) → Option Fault
+first_fault options texts = first (faults_from options nothing_defined (all_lines texts))

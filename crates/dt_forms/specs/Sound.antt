@@ -9,7 +9,8 @@ use Rattle.dt_forms.specs.declared.form.Format.{Format}
 use Rattle.dt_forms.specs.declared.form.Pattern.{Pattern}
 use Rattle.dt_forms.specs.declared.model.Model.{Model}
 use Rattle.dt_forms.specs.declared.reader.TheConstants.{MOST_PATTERNS}
-use Rattle.dt_forms.specs.CNames.{IsCName}
+use Rattle.dt_fields.specs.SoundSets.{IsSoundSet}
+use Rattle.dt_forms.specs.PatternLines.{set_number}
 use Rattle.dt_forms.specs.Patterns.{FlatPattern, position_of}
 use Rattle.dt_forms.specs.Trees.{Item, one, overlap, exclusive, Cluster, cluster, Items, no_item, item}
 use Rattle.dt_forms.specs.Trees.{items_of, numbers_of, numbers_from}
@@ -71,10 +72,6 @@ abbrev mutual
   depth no_item = 0
   depth (item i is) = max (item_depth i) (depth is)
 
--- the number of a pattern's set
-abbrev pub set_number : List Format → Pattern → ℕ
-set_number formats p = get_or (map (λ f. f.set) formats) p.format 0
-
 -- the names of the arguments of a pattern's set
 abbrev pub argument_names : List SetDef → List Format → Pattern → List (List ℕ)
 argument_names sets formats p = map (λ m. m.name) (get_or (map (λ s. s.members) sets) (set_number formats p) [])
@@ -102,8 +99,8 @@ pub record IsSoundPattern (width : ℕ) (p : FlatPattern) : Type 0 where
   pub file_below : p.file < 2 ^ 16
   pub line_below : p.line < 2 ^ 32
 
--- The rules of fields, constants and types, and of references between arguments, aren't here: a model has no such parts
--- yet.
+-- No format and no pattern gives a value yet, so the rules of fields and constants, and of references between arguments,
+-- aren't here.
 pub record IsSound (model : Model) : Type 0 where
   pub masks : All (HasMasks (width_bits model.width)) model.patterns
   pub format_masks : All (FormatHasMasks (width_bits model.width)) model.formats
@@ -112,17 +109,16 @@ pub record IsSound (model : Model) : Type 0 where
   pub pattern_numbers : All (λ n. n < length model.patterns) (numbers_of (items_of model.entries))
   pub each_once : numbers_of (items_of model.entries) ≡ numbers_from 0 (length model.patterns)
   pub few : length model.patterns ≤ MOST_PATTERNS
-  pub few_arguments : All (λ s. length s.members ≤ 32) model.sets
+  pub sets_sound : All IsSoundSet model.sets
   pub nested : depth (items_of model.entries) ≤ 16
   pub positions : AllPairs IsBefore model.patterns
   pub whole_words : All (λ p. p.bits ≡ width_bits model.width) model.patterns
   pub flat_sound : All (IsSoundPattern (width_bits model.width)) (map pattern_seen model.patterns)
-  pub sets_named : All (λ s. IsName s.name) model.sets
   pub set_names : AllPairs (λ s t. s.name ≢ t.name) model.sets
   pub formats_named : All (λ f. IsName f.name) model.formats
   pub format_names : AllPairs (λ f g. f.name ≢ g.name) model.formats
   pub one_set : AllPairs (HaveOneSet model.formats) model.patterns
-  pub different_arguments : All (λ s. AllPairs (λ a b. a.name ≢ b.name) s.members) model.sets
-  pub c_names : All (λ s. All (λ m. IsCName m.name) s.members) model.sets
   pub values : All (GivesArguments model.sets model.formats) model.patterns
+  pub format_values : All (λ f. f.values ≡ []) model.formats
+  pub pattern_values : All (λ p. p.values ≡ []) model.patterns
   pub entry_positions : AllPairs IsEarlier (positions_of model.patterns (items_of model.entries))

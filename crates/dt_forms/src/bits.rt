@@ -1,42 +1,85 @@
-//! Numbers by their binary digits.
+//! The bits of a pattern, laid one behind the other.
 
-ghost use Rattle.std.specs.Prelude.{◌≡◌, ◌≤◌, ◌^◌, ◌-◌, length};
+ghost use Rattle.std.specs.Prelude.{◌≡◌, ◌+◌, ◌-◌, ◌<◌, ◌≤◌, ◌^◌, [], length};
 ghost use Rattle.dt_values.specs.Widths.{width_bits};
-ghost use Rattle.dt_forms.specs.Digits.{digit_in};
-ghost use Rattle.dt_forms.specs.Patterns.{number_of};
+ghost use Rattle.dt_forms.specs.Bits.{AreBitsBelow, bits_of, fixed_digit, ignored_digit, one_digit, with_digit, with_digits};
 
 use dt_values::Width;
 
-/// Which bytes of a pattern's bits are 1 in a number: those of the fixed bits, of the ones, of the ignored bits.
-#[derive(Clone, Copy)]
-pub enum Digits {
-    Fixed,
-    Ones,
-    Ignored,
+/// What the digits of a pattern say: how many there are, the value of the bits that they fix, and the masks of the
+/// bits that they fix and ignore. The last digit is the least significant bit.
+#[derive(Clone, Copy, Debug, PartialEq, Eq)]
+pub struct Bits {
+    pub count: u32,
+    pub fixed_bits: u64,
+    pub fixed_mask: u64,
+    pub ignored: u64,
 }
 
-/// The number whose binary digits these bytes stand for, the first most significant.
-#[tactic(auto, using(crate::proofs::BinaryNumbers::bit_bound, crate::proofs::BinaryNumbers::digit_small))]
-pub fn number_of(digits: Digits, bits: &[u8]) -> u64
-    requires { length bits.now ≤ 64 }
-    ensures { result ≡ number_of (digit_in digits) bits.now }
-{
-    let mut number = 0;
-    for byte in bits {
-        number = number * 2 + digit(digits, *byte);
+impl Bits {
+    /// No digit.
+    pub fn new() -> Bits
+        ensures bits { result ≡ bits_of [] }
+        ensures below { AreBitsBelow result }
+    {
+        Bits {
+            count: 0,
+            fixed_bits: 0,
+            fixed_mask: 0,
+            ignored: 0,
+        }
     }
-    number
+
+    /// These digits behind the others.
+    pub fn with_digits(self, digits: &[u8]) -> Bits
+        requires room { self.count + length digits.now ≤ 64 }
+        requires below { AreBitsBelow self }
+        ensures bits { result ≡ with_digits self digits.now }
+        ensures below { AreBitsBelow result }
+    {
+        let mut bits = self;
+        for digit in digits {
+            bits = bits.with_digit(*digit);
+        }
+        bits
+    }
+
+    // One digit behind the others.
+    #[tactic(auto, using(crate::proofs::BinaryNumbers::digit_fits, crate::proofs::BinaryNumbers::digit_below))]
+    fn with_digit(self, digit: u8) -> Bits
+        requires room { self.count < 64 }
+        requires below { AreBitsBelow self }
+        ensures bits { result ≡ with_digit self digit }
+        ensures below { AreBitsBelow result }
+    {
+        Bits {
+            count: self.count + 1,
+            fixed_bits: self.fixed_bits * 2 + one_digit(digit),
+            fixed_mask: self.fixed_mask * 2 + fixed_digit(digit),
+            ignored: self.ignored * 2 + ignored_digit(digit),
+        }
+    }
 }
 
-fn digit(digits: Digits, byte: u8) -> u64
-    ensures { result ≡ digit_in digits byte }
+fn one_digit(digit: u8) -> u64
+    ensures value { result ≡ one_digit digit }
+    ensures small { result ≤ 1 }
 {
-    let is_set = match digits {
-        Digits::Fixed => byte == b'0' || byte == b'1',
-        Digits::Ones => byte == b'1',
-        Digits::Ignored => byte == b'-',
-    };
-    if is_set { 1 } else { 0 }
+    if digit == b'1' { 1 } else { 0 }
+}
+
+fn fixed_digit(digit: u8) -> u64
+    ensures value { result ≡ fixed_digit digit }
+    ensures small { result ≤ 1 }
+{
+    if digit == b'0' || digit == b'1' { 1 } else { 0 }
+}
+
+fn ignored_digit(digit: u8) -> u64
+    ensures value { result ≡ ignored_digit digit }
+    ensures small { result ≤ 1 }
+{
+    if digit == b'-' { 1 } else { 0 }
 }
 
 /// The mask of all bits of a word.

@@ -1,31 +1,37 @@
 //! Laws of files and their flat lists: public functions whose contracts are the laws, and whose bodies are empty.
 
 ghost use Rattle.std.specs.Prelude.{◌≡◌, ◌<◌, ◌≤◌, ◌^◌, ℕ, List, None, Some, length, get_or, All};
+ghost use Rattle.dt_values.specs.Widths.{width_bits};
+ghost use Rattle.dt_forms.specs.declared.options.Options.{Options};
 ghost use Rattle.dt_forms.specs.declared.reader.TheConstants.{MOST_FILES};
 ghost use Rattle.dt_forms.specs.FileFaults.{HaveNoFileFault, file_fault, first_broken};
-ghost use Rattle.dt_forms.specs.Patterns.{flat_list, position_of};
+ghost use Rattle.dt_forms.specs.Models.{flat_list};
+ghost use Rattle.dt_forms.specs.Options.{IsOptionName};
+ghost use Rattle.dt_forms.specs.Patterns.{position_of};
 ghost use Rattle.dt_forms.specs.Positions.{first_token_at};
 ghost use Rattle.dt_forms.specs.Rules.{Fault, first_fault};
 ghost use Rattle.dt_forms.specs.Sound.{IsSoundPattern};
 
 /// Each pattern of the flat list of files that break no rule of lines is sound.
 pub fn law_flat_list_is_sound()
-    ensures { (width : ℕ) (texts : List (List ℕ)) → length texts ≤ MOST_FILES → All (λ t. length t < 2 ^ 32) texts
-        → first_fault width texts ≡ None → All (IsSoundPattern width) (flat_list texts) }
+    ensures { (options : Options) (texts : List (List ℕ)) → IsOptionName options.decode → length texts ≤ MOST_FILES
+        → All (λ t. length t < 2 ^ 32) texts → first_fault options texts ≡ None
+        → All (IsSoundPattern (width_bits options.width)) (flat_list options texts) }
 {}
 
 /// The first token at the position of a pattern of the flat list is the pattern's name.
 pub fn law_first_token_is_the_name()
-    ensures { (texts : List (List ℕ)) → All (λ p. first_token_at texts (position_of p) ≡ p.name) (flat_list texts) }
+    ensures { (options : Options) (texts : List (List ℕ))
+        → All (λ p. first_token_at texts (position_of p) ≡ p.name) (flat_list options texts) }
 {}
 
 /// Where no file has too many lines or a long name, files break first what their lines do; else what the first such
 /// file does.
 pub fn law_first_broken()
-    ensures lines { (width : ℕ) (texts : List (List ℕ)) → HaveNoFileFault texts
-        → first_broken width texts ≡ first_fault width texts }
-    ensures file { (width place : ℕ) (texts : List (List ℕ)) (text : List ℕ) (fault : Fault)
+    ensures lines { (options : Options) (texts : List (List ℕ)) → HaveNoFileFault texts
+        → first_broken options texts ≡ first_fault options texts }
+    ensures file { (options : Options) (place : ℕ) (texts : List (List ℕ)) (text : List ℕ) (fault : Fault)
         → ((earlier : ℕ) → earlier < place → file_fault earlier (get_or texts earlier text) ≡ None)
         → place < length texts → file_fault place (get_or texts place text) ≡ Some fault
-        → first_broken width texts ≡ Some fault }
+        → first_broken options texts ≡ Some fault }
 {}

@@ -1,17 +1,20 @@
-//! Models of pattern files: the reading of patterns of bits.
+//! Models of pattern files: what the lines define, and the rules that they keep.
 #![tactic(auto)]
 
 mod bits;
 pub mod entry;
 pub mod fault;
 pub mod form;
+mod head;
 mod infer;
 pub mod laws;
-mod line;
 pub mod model;
 pub mod options;
+mod pattern_line;
+mod patterns;
 pub mod position;
 pub mod reader;
+mod scope;
 pub mod source;
 pub mod value;
 

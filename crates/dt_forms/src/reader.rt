@@ -1,31 +1,35 @@
 //! Reads pattern files.
 
-ghost use Rattle.std.specs.Prelude.{◌≡◌, ◌≤◌, ◌++◌, ℕ, List, [], Option, length, map, vec_len, All, IfOk, IfErr, OnOk, None};
-ghost use Rattle.std.specs.Option.{option_map, option_to_list};
-ghost use Rattle.dt_values.specs.Widths.{width_bits};
+ghost use Rattle.std.specs.Prelude.{◌≡◌, ◌==◌, ◌<◌, ◌≤◌, ◌∷◌, ℕ, List, [], Option, length, map, not, All, IfErr, IfOk, OnOk, None};
+ghost use Rattle.std.specs.List.{list_all, list_any};
 ghost use Rattle.dt_lines.specs.Lines.{logical_lines};
-ghost use Rattle.dt_lines.specs.Spans.{AreSpans, line_seen};
-ghost use Rattle.dt_forms.specs.declared.fault.ModelFault.TheVariants.{NoMemory};
-ghost use Rattle.dt_forms.specs.Models.{IsModelOf, formats_of, sets_of};
-ghost use Rattle.dt_forms.specs.Options.{IsOptionName, IsOptions};
-ghost use Rattle.dt_forms.specs.Patterns.{pattern_line, pattern_lines};
-ghost use Rattle.dt_forms.specs.Reading.{after_line, after_lines, fault_in_lines, fault_or, pattern_lines_in, scope_of};
-ghost use Rattle.dt_forms.specs.Rules.{Broken, Fault as FirstFault, faults_of_line, first_fault};
+ghost use Rattle.dt_lines.specs.Spans.{AreSpans, IsWithin, line_seen, text_at};
+ghost use Rattle.dt_fields.specs.Faults.{first, number, where_broken};
+ghost use Rattle.dt_fields.specs.declared.rule.Rule.TheVariants as rule;
+ghost use Rattle.dt_fields.specs.View.{DefBroken};
+ghost use Rattle.dt_forms.specs.Bits.{is_bit};
+ghost use Rattle.dt_forms.specs.FileLines.{all_lines, in_file};
+ghost use Rattle.dt_forms.specs.Heads.{head_of};
+ghost use Rattle.dt_forms.specs.Models.{IsModelOf, IsModelOfScope};
+ghost use Rattle.dt_forms.specs.Options.{IsOptions};
+ghost use Rattle.dt_forms.specs.Rules.{after_head, after_line, after_lines, definition_faults, faults_from, faults_of_line};
+ghost use Rattle.dt_forms.specs.Rules.{first_fault, has_other_byte, head_faults, is_not_built, is_one_too_many, scope_before};
+ghost use Rattle.dt_forms.specs.Rules.{structure_rows};
 ghost use Rattle.dt_forms.specs.Sound.{IsSound};
 ghost use Rattle.dt_forms.specs.Sources.{AreSources, IsSourceAt};
-ghost use Rattle.dt_forms.specs.Trees.{items_from, items_of, numbers_from, one};
-ghost use Rattle.dt_forms.specs.View.{FileBroken, LineBroken, ModelBroken, kept_pattern, pattern_seen, texts_of};
+ghost use Rattle.dt_forms.specs.View.{FileBroken, ModelBroken, fault_at, texts_of};
 
-use crate::entry::EntryList;
+use crate::entry::{EntryList, entries_of};
 use crate::fault::{Fault, ModelFault};
-use crate::form::{FormatList, Pattern, PatternList};
-use crate::infer::{entries_of, formats_of, sets_of};
-use crate::line::{LineFault, Place, read_line};
+use crate::form::{FormatList, PatternList};
+use crate::head::{Head, head_of};
 use crate::model::{Model, SetList};
 use crate::options::Options;
+use crate::pattern_line::add_pattern_line;
+use crate::scope::Scope;
 use crate::source::Source;
-use dt_lines::Logical;
-use dt_values::Width;
+use dt_fields::{DefFault, Detail, Rule};
+use dt_lines::{Logical, Position, Span};
 use std::alloc::{AllocError, Global};
 
 /// The most patterns that all files may have.
@@ -42,164 +46,309 @@ pub fn read_model(alloc: Global, options: &Options, files: &[Source]) -> Result<
     requires sources { AreSources files.now }
     ensures model { IfOk result (IsModelOf options.now (texts_of files.now)) }
     ensures sound { IfOk result IsSound }
-    ensures kept { OnOk result (first_fault (width_bits options.now.width) (texts_of files.now) ≡ None) }
+    ensures kept { OnOk result (first_fault options.now (texts_of files.now) ≡ None) }
     ensures broken { IfErr result (λ fault.
-        ModelBroken files.now fault (first_fault (width_bits options.now.width) (texts_of files.now))) }
+        ModelBroken files.now fault (first_fault options.now (texts_of files.now))) }
 {
-    let patterns = read_files(alloc, options.width, files)?;
-    match model_of(alloc, options, patterns) {
+    let scope = read_files(alloc, options, files)?;
+    match model_of(alloc, options, scope) {
         Ok(model) => Ok(model),
         Err(_) => Err(ModelFault::NoMemory),
     }
 }
 
-// The model of these patterns.
-fn model_of(alloc: Global, options: &Options, patterns: Vec<Pattern>) -> Result<Model, AllocError>
-    requires decode { IsOptionName options.now.decode }
-    requires few { vec_len patterns ≤ MOST_PATTERNS }
-    ensures width { IfOk result (λ model. model.width ≡ options.now.width) }
-    ensures variable { IfOk result (λ model. model.variable ≡ options.now.variable) }
-    ensures sets { IfOk result (λ model. model.sets ≡ sets_of options.now.decode (map pattern_seen patterns.items)) }
-    ensures formats { IfOk result (λ model. model.formats ≡ formats_of options.now.decode (width_bits options.now.width) (map pattern_seen patterns.items)) }
-    ensures patterns { IfOk result (λ model. model.patterns ≡ patterns.items) }
-    ensures entries { IfOk result (λ model. items_of model.entries ≡ items_from (map one (numbers_from 0 (vec_len patterns)))) }
+// The model of what lines define.
+fn model_of(alloc: Global, options: &Options, scope: Scope) -> Result<Model, AllocError>
+    requires { length scope.patterns ≤ MOST_PATTERNS }
+    ensures { IfOk result (IsModelOfScope options.now scope) }
 {
+    let (sets, formats, patterns) = scope.into_parts(alloc)?;
     Ok(Model {
         width: options.width,
         variable: options.variable,
-        sets: SetList::of(sets_of(alloc, options.decode, patterns.as_slice())?),
-        formats: FormatList::of(formats_of(
-            alloc,
-            options.decode,
-            options.width,
-            patterns.as_slice(),
-        )?),
+        sets: SetList::of(sets),
+        formats: FormatList::of(formats),
         entries: EntryList::of(entries_of(alloc, patterns.len() as u32)?),
         patterns: PatternList::of(patterns),
     })
 }
 
-// The patterns of all files, in order.
-#[tactic(auto, using(crate::proofs::ReadFiles::patterns_at_start, crate::proofs::ReadFiles::faults_at_start, crate::proofs::ReadFiles::patterns_more, crate::proofs::ReadFiles::faults_more, crate::proofs::ReadFiles::broken_here))]
-fn read_files(alloc: Global, width: Width, files: &[Source]) -> Result<Vec<Pattern>, ModelFault>
+// What the lines of all files define.
+#[tactic(auto, using(crate::proofs::ReadFiles::broken_here))]
+fn read_files(alloc: Global, options: &Options, files: &[Source]) -> Result<Scope, ModelFault>
+    requires options { IsOptions options.now }
     requires few { length files.now ≤ MOST_FILES }
     requires sources { AreSources files.now }
-    ensures patterns { IfOk result (λ patterns. patterns.items ≡ map kept_pattern (pattern_lines (texts_of files.now))) }
-    ensures kept { OnOk result (first_fault (width_bits width) (texts_of files.now) ≡ None) }
-    ensures broken { IfErr result (λ fault. ModelBroken files.now fault (first_fault (width_bits width) (texts_of files.now))) }
+    ensures scope { IfOk result (λ scope. scope ≡ scope_before options.now (all_lines (texts_of files.now))) }
+    ensures kept { OnOk result (first_fault options.now (texts_of files.now) ≡ None) }
+    ensures broken { IfErr result (λ fault.
+        ModelBroken files.now fault (first_fault options.now (texts_of files.now))) }
 {
-    let mut patterns = Vec::new(alloc);
+    let mut scope = Scope::new(alloc);
     for (place, source) in files.iter().enumerate() {
-        if let Err(fault) = read_file(alloc, width, place as u16, source, &mut patterns) {
-            return Err(fault);
+        match read_file(alloc, options, place as u16, source, &mut scope) {
+            Ok(()) => {}
+            Err(fault) => return Err(fault),
         }
     }
-    Ok(patterns)
+    Ok(scope)
 }
 
-// Reads a file, and puts its patterns behind those of the files before.
+// Reads the lines of a file.
 fn read_file(
     alloc: Global,
-    width: Width,
+    options: &Options,
     file: u16,
     source: &Source,
-    patterns: &mut Vec<Pattern>,
+    scope: &mut Scope,
 ) -> Result<(), ModelFault>
-    requires { IsSourceAt file source.now }
-    ensures patterns { OnOk result (patterns.new.items ≡ patterns.old.items ++ map kept_pattern (pattern_lines_in file (logical_lines source.now.bytes))) }
-    ensures kept { OnOk result (fault_in_lines (width_bits width) file (scope_of (vec_len patterns.old)) (logical_lines source.now.bytes) ≡ None) }
-    ensures after { OnOk result (after_lines (scope_of (vec_len patterns.old)) (logical_lines source.now.bytes) ≡ scope_of (vec_len patterns.new)) }
-    ensures broken { IfErr result (λ fault. FileBroken source.now.bytes file fault (fault_in_lines (width_bits width) file (scope_of (vec_len patterns.old)) (logical_lines source.now.bytes))) }
+    requires options { IsOptions options.now }
+    requires source { IsSourceAt file source.now }
+    ensures after { OnOk result (scope.new
+        ≡ after_lines options.now scope.old (map (in_file file) (logical_lines source.now.bytes))) }
+    ensures kept { OnOk result (faults_from options.now scope.old
+        (map (in_file file) (logical_lines source.now.bytes)) ≡ []) }
+    ensures broken { IfErr result (λ fault. FileBroken source.now.bytes file fault
+        (first (faults_from options.now scope.old (map (in_file file) (logical_lines source.now.bytes))))) }
 {
     read_lines(
         alloc,
-        width,
+        options,
         file,
         source.bytes.items(),
         source.lines.items(),
-        patterns,
+        scope,
     )
 }
 
 // Reads lines of a file.
-#[tactic(auto, using(crate::proofs::ReadLines::patterns_more, crate::proofs::ReadLines::faults_more, crate::proofs::ReadLines::after_more, crate::proofs::ReadLines::broken_here))]
+#[tactic(auto, using(crate::proofs::ReadLines::after_more, crate::proofs::ReadLines::faults_more, crate::proofs::ReadLines::broken_here))]
 fn read_lines(
     alloc: Global,
-    width: Width,
+    options: &Options,
     file: u16,
-    bytes: &[u8],
+    source: &[u8],
     lines: &[Logical],
-    patterns: &mut Vec<Pattern>,
+    scope: &mut Scope,
 ) -> Result<(), ModelFault>
-    requires { All (λ l. AreSpans (length bytes.now) l.tokens) lines.now }
-    ensures patterns { OnOk result (patterns.new.items ≡ patterns.old.items ++ map kept_pattern (pattern_lines_in file (map (line_seen bytes.now) lines.now))) }
-    ensures kept { OnOk result (fault_in_lines (width_bits width) file (scope_of (vec_len patterns.old)) (map (line_seen bytes.now) lines.now) ≡ None) }
-    ensures after { OnOk result (after_lines (scope_of (vec_len patterns.old)) (map (line_seen bytes.now) lines.now) ≡ scope_of (vec_len patterns.new)) }
-    ensures broken { IfErr result (λ fault. FileBroken bytes.now file fault (fault_in_lines (width_bits width) file (scope_of (vec_len patterns.old)) (map (line_seen bytes.now) lines.now))) }
+    requires options { IsOptions options.now }
+    requires lines { All (λ l. AreSpans (length source.now) l.tokens) lines.now }
+    ensures after { OnOk result (scope.new ≡ after_lines options.now scope.old
+        (map (in_file file) (map (line_seen source.now) lines.now))) }
+    ensures kept { OnOk result (faults_from options.now scope.old
+        (map (in_file file) (map (line_seen source.now) lines.now)) ≡ []) }
+    ensures broken { IfErr result (λ fault. FileBroken source.now file fault
+        (first (faults_from options.now scope.old (map (in_file file) (map (line_seen source.now) lines.now))))) }
 {
     for line in lines {
-        if let Err(fault) = read_one(alloc, width, file, bytes, line, patterns) {
-            return Err(fault);
-        }
-    }
-    Ok(())
-}
-
-// Reads a line, and puts its pattern behind those before it.
-#[tactic(auto, using(crate::proofs::ReadLines::after_pushed))]
-fn read_one(
-    alloc: Global,
-    width: Width,
-    file: u16,
-    bytes: &[u8],
-    line: &Logical,
-    patterns: &mut Vec<Pattern>,
-) -> Result<(), ModelFault>
-    requires { AreSpans (length bytes.now) line.now.tokens }
-    ensures patterns { OnOk result (patterns.new.items ≡ patterns.old.items ++ option_to_list (option_map kept_pattern (pattern_line file (line_seen bytes.now line.now)))) }
-    ensures kept { OnOk result (faults_of_line (width_bits width) (scope_of (vec_len patterns.old)) (line_seen bytes.now line.now) ≡ []) }
-    ensures after { OnOk result (after_line (scope_of (vec_len patterns.old)) (line_seen bytes.now line.now) ≡ scope_of (vec_len patterns.new)) }
-    ensures broken { IfErr result (λ fault. (later : Option FirstFault) → FileBroken bytes.now file fault (fault_or file line.now.line (faults_of_line (width_bits width) (scope_of (vec_len patterns.old)) (line_seen bytes.now line.now)) later)) }
-{
-    let place = Place {
-        file,
-        line: line.line,
-        indent: line.indent,
-        patterns: patterns.len(),
-    };
-    let pattern = match read_line(alloc, width, place, bytes, line.tokens.items()) {
-        Ok(pattern) => pattern,
-        Err(fault) => return Err(fault_at(file, line.line, fault)),
-    };
-    push_pattern(patterns, pattern)?;
-    Ok(())
-}
-
-// Puts a pattern last, where there is one.
-fn push_pattern(patterns: &mut Vec<Pattern>, pattern: Option<Pattern>) -> Result<(), ModelFault>
-    ensures patterns { OnOk result (patterns.new.items ≡ patterns.old.items ++ option_to_list pattern) }
-    ensures memory { IfErr result (λ fault. fault ≡ NoMemory) }
-{
-    if let Some(pattern) = pattern {
-        if patterns.push(pattern).is_err() {
-            return Err(ModelFault::NoMemory);
+        if let Err(fault) = read_line(alloc, options, file, source, line, scope) {
+            return Err(fault_at(file, line.line, fault));
         }
     }
     Ok(())
 }
 
 // A line's fault as that of its file.
-fn fault_at(file: u16, line: u32, fault: LineFault) -> ModelFault
-    ensures { (bytes : List ℕ) (faults : List Broken) (later : Option FirstFault) → LineBroken bytes fault faults
-        → FileBroken bytes file result (fault_or file line faults later) }
+fn fault_at(file: u16, line: u32, fault: DefFault) -> ModelFault
+    ensures { result ≡ fault_at file line fault }
 {
     match fault {
-        LineFault::NoMemory => ModelFault::NoMemory,
-        LineFault::Broken(rule, detail) => ModelFault::Broken(Fault {
+        DefFault::NoMemory => ModelFault::NoMemory,
+        DefFault::Broken(rule, detail) => ModelFault::Broken(Fault {
             file,
             line,
             rule,
             detail,
         }),
+    }
+}
+
+// Reads a line, which sees what the lines before it define.
+fn read_line(
+    alloc: Global,
+    options: &Options,
+    file: u16,
+    source: &[u8],
+    line: &Logical,
+    scope: &mut Scope,
+) -> Result<(), DefFault>
+    requires options { IsOptions options.now }
+    requires spans { AreSpans (length source.now) line.now.tokens }
+    ensures after { OnOk result (scope.new
+        ≡ after_line options.now scope.old (in_file file (line_seen source.now line.now))) }
+    ensures kept { OnOk result (faults_of_line options.now scope.old (line_seen source.now line.now) ≡ []) }
+    ensures broken { IfErr result (λ fault. DefBroken source.now fault
+        (faults_of_line options.now scope.old (line_seen source.now line.now))) }
+{
+    let tokens = line.tokens.items();
+    if tokens.is_empty() {
+        return check_indentation(line.indent);
+    }
+    let (first, rest) = split_line(tokens);
+    read_tokens(alloc, options, file, source, line, first, rest, scope)
+}
+
+// The first token and the others.
+fn split_line(tokens: &[Span]) -> (Span, &[Span])
+    requires { 0 < length tokens.now }
+    ensures { tokens.now ≡ result.0 ∷ result.1.now }
+{
+    let (first, rest) = tokens.split_first().unwrap();
+    (*first, rest)
+}
+
+// Refuses a line that is indented: no group can be open.
+fn check_indentation(indent: u32) -> Result<(), DefFault>
+    ensures kept { OnOk result (where_broken (not (indent == 0)) (rule.L1, number indent) ≡ []) }
+    ensures broken { (source : List ℕ) → IfErr result (λ fault. DefBroken source fault
+        (where_broken (not (indent == 0)) (rule.L1, number indent))) }
+{
+    if indent != 0 {
+        return Err(DefFault::Broken(Rule::L1, Detail::Number(indent as u64)));
+    }
+    Ok(())
+}
+
+// Reads a line whose tokens are a first one and the rest.
+#[tactic(auto, using(dt_fields::proofs::FirstFaults::broken_prefix))]
+fn read_tokens(
+    alloc: Global,
+    options: &Options,
+    file: u16,
+    source: &[u8],
+    line: &Logical,
+    first: Span,
+    rest: &[Span],
+    scope: &mut Scope,
+) -> Result<(), DefFault>
+    requires options { IsOptions options.now }
+    requires spans { AreSpans (length source.now) line.now.tokens }
+    requires first { IsWithin (length source.now) first }
+    requires rest { All (IsWithin (length source.now)) rest.now }
+    requires tokens { line.now.tokens ≡ first ∷ rest.now }
+    ensures after { OnOk result (scope.new ≡ after_head options.now scope.old
+        (record { file = file; line = line.now.line }) (text_at source.now first) (map (text_at source.now) rest.now)
+        (head_of (text_at source.now first))) }
+    ensures kept { OnOk result (head_faults options.now scope.old line.now.indent (text_at source.now first)
+        (map (text_at source.now) rest.now) (head_of (text_at source.now first)) ≡ []) }
+    ensures broken { IfErr result (λ fault. DefBroken source.now fault (head_faults options.now scope.old
+        line.now.indent (text_at source.now first) (map (text_at source.now) rest.now)
+        (head_of (text_at source.now first)))) }
+{
+    let head = head_of(first.text(source));
+    match check_structure(source, scope, line.indent, first, rest, head) {
+        Ok(()) => add_definition(alloc, options, file, source, line, first, rest, scope),
+        Err(fault) => Err(fault),
+    }
+}
+
+// Refuses a line that breaks a rule of structure.
+fn check_structure(
+    source: &[u8],
+    scope: &Scope,
+    indent: u32,
+    first: Span,
+    rest: &[Span],
+    head: Head,
+) -> Result<(), DefFault>
+    requires first { IsWithin (length source.now) first }
+    requires rest { All (IsWithin (length source.now)) rest.now }
+    ensures kept { OnOk result (structure_rows scope.now indent (text_at source.now first)
+        (map (text_at source.now) rest.now) head ≡ []) }
+    ensures broken { IfErr result (λ fault. DefBroken source.now fault (structure_rows scope.now indent
+        (text_at source.now first) (map (text_at source.now) rest.now) head)) }
+{
+    if is_not_built(source, rest, head) {
+        return Err(DefFault::Broken(Rule::N2, Detail::None));
+    }
+    if indent != 0 {
+        return Err(DefFault::Broken(Rule::L1, Detail::Number(indent as u64)));
+    }
+    if head == Head::None {
+        return Err(DefFault::Broken(Rule::L7, Detail::Text(first)));
+    }
+    if is_one_too_many(scope, head) {
+        return Err(DefFault::Broken(Rule::L9, Detail::Text(first)));
+    }
+    Ok(())
+}
+
+// Whether a line with this head and these further tokens isn't built.
+fn is_not_built(source: &[u8], rest: &[Span], head: Head) -> bool
+    requires { All (IsWithin (length source.now)) rest.now }
+    ensures { result ≡ is_not_built (map (text_at source.now) rest.now) head }
+{
+    match head {
+        Head::Group | Head::Format => true,
+        Head::Field(_) | Head::Set(_) | Head::None => false,
+        Head::Pattern(_) => has_other_token(source, rest),
+    }
+}
+
+// Whether a token has a byte that stands for no bit.
+fn has_other_token(source: &[u8], tokens: &[Span]) -> bool
+    requires { All (IsWithin (length source.now)) tokens.now }
+    ensures { result ≡ list_any has_other_byte (map (text_at source.now) tokens.now) }
+{
+    for token in tokens {
+        if !has_bits(token.text(source)) {
+            return true;
+        }
+    }
+    false
+}
+
+fn has_bits(token: &[u8]) -> bool
+    ensures { result ≡ list_all is_bit token.now }
+{
+    token.iter().all(|byte| *byte == b'0' || *byte == b'1' || *byte == b'.' || *byte == b'-')
+}
+
+// Whether a pattern would be one more than there may be.
+fn is_one_too_many(scope: &Scope, head: Head) -> bool
+    ensures { result ≡ is_one_too_many scope.now head }
+{
+    match head {
+        Head::Pattern(_) => scope.patterns().items().len() >= MOST_PATTERNS,
+        _ => false,
+    }
+}
+
+// Adds what a line with this head defines.
+#[tactic(auto, using(crate::proofs::HeadTokens::begins_with_field, crate::proofs::HeadTokens::begins_with_set))]
+fn add_definition(
+    alloc: Global,
+    options: &Options,
+    file: u16,
+    source: &[u8],
+    line: &Logical,
+    first: Span,
+    rest: &[Span],
+    scope: &mut Scope,
+) -> Result<(), DefFault>
+    requires options { IsOptions options.now }
+    requires spans { AreSpans (length source.now) line.now.tokens }
+    requires first { IsWithin (length source.now) first }
+    requires rest { All (IsWithin (length source.now)) rest.now }
+    requires tokens { line.now.tokens ≡ first ∷ rest.now }
+    ensures after { OnOk result (scope.new ≡ after_head options.now scope.old
+        (record { file = file; line = line.now.line }) (text_at source.now first) (map (text_at source.now) rest.now)
+        (head_of (text_at source.now first))) }
+    ensures kept { OnOk result (definition_faults options.now scope.old (text_at source.now first)
+        (map (text_at source.now) rest.now) (head_of (text_at source.now first)) ≡ []) }
+    ensures broken { IfErr result (λ fault. DefBroken source.now fault (definition_faults options.now scope.old
+        (text_at source.now first) (map (text_at source.now) rest.now) (head_of (text_at source.now first)))) }
+{
+    match head_of(first.text(source)) {
+        Head::Field(_) => scope.add_field(alloc, options.width, source, line),
+        Head::Set(_) => scope.add_set(alloc, source, line),
+        Head::Pattern(name) => {
+            let position = Position {
+                file,
+                line: line.line,
+            };
+            add_pattern_line(alloc, options, scope, source, position, name, rest)
+        }
+        Head::Group | Head::Format | Head::None => Ok(()),
     }
 }

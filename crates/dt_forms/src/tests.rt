@@ -1,17 +1,16 @@
-//! Reads small files: the rule of each faulty line, and the models of sound ones.
+//! Reads small files: the rules of faulty lines, and the models of sound ones.
 
 ghost use Rattle.std.specs.Prelude.{◌≡◌, ◌+◌, ◌≤◌, length, vec_len, IfOk, OnOk};
 ghost use Rattle.dt_forms.specs.Options.{IsOptions};
 ghost use Rattle.dt_forms.specs.Sources.{AreSources, IsSourceAt};
 
-use crate::line::{LineFault, Place, read_line};
 use crate::{
     Entry, Fault, MOST_FILES, MOST_PATTERNS, Model, ModelFault, Options, Source, first_token,
     read_model,
 };
 use dt_fields::{Detail, Rule};
 use dt_lines::{LARGEST_FILE, Position, Span};
-use dt_values::Width;
+use dt_values::{CType, Name, Width};
 use std::alloc::Global;
 use std::test::Fail;
 
@@ -132,9 +131,9 @@ fn words_of_32_bits(rt: HostRuntime) -> Result<(), Fail> {
             b"a 00000000000000000000000000000000 0",
             (1, Rule::G8, text(35, 36)),
         ),
-        (b"*a 0x", (1, Rule::N2, Detail::None)),
+        (b"*a 0x", (1, Rule::L7, text(0, 2))),
         (b"a 0\n*b 0x", (1, Rule::G9, Detail::Number(1))),
-        (b"\n\n *b 0x\na", (3, Rule::N2, Detail::None)),
+        (b"\n\n *b 0x\na", (3, Rule::L1, Detail::Number(1))),
         (
             b"a 0101010101010101----------------\n *b 0",
             (2, Rule::L1, Detail::Number(1)),
@@ -152,12 +151,12 @@ fn lines_that_are_not_built(rt: HostRuntime) -> Result<(), Fail> {
     let table: [&[u8]; 8] = [
         b"}",
         b"{",
-        b"[",
-        b"]",
-        b"%f 0:4",
-        b"&s a",
+        b"[ 0x",
+        b" ]",
         b"@f ----------------",
+        b"@",
         b"p a:16",
+        b" p %f",
     ];
     for bytes in table {
         assert!(rt; is_fault(rt.alloc(), Width::W16, bytes, (1, Rule::N2, Detail::None))?);
@@ -299,23 +298,52 @@ fn a_pattern_too_many(rt: HostRuntime) -> Result<(), Fail> {
 }
 
 #[test]
-fn a_line_without_tokens_has_an_indentation(rt: HostRuntime) {
-    let place = Place {
-        file: 0,
-        line: 1,
-        indent: 1,
-        patterns: 0,
+fn fields_and_sets_are_read(rt: HostRuntime) -> Result<(), Fail> {
+    let file =
+        b"%f 0:4 \\\n  4:s4\n&r rd imm:int64_t\n&e !extern\np --------------------------------";
+    let model = model_of(read(rt.alloc(), Width::W32, file)?)?;
+    let [r, e] = model.sets.items() else {
+        return Err("two sets".into());
     };
-    let read = read_line(rt.alloc(), Width::W16, place, b" #", &[]);
-    assert!(rt; matches!(read, Err(LineFault::Broken(Rule::L1, Detail::Number(1)))));
-    let read = read_line(
-        rt.alloc(),
-        Width::W16,
-        Place { indent: 0, ..place },
-        b"#",
-        &[],
+    assert_eq!(rt; (r.name.as_str(), r.outside), ("r", false));
+    let [rd, imm] = r.members.items() else {
+        return Err("two arguments".into());
+    };
+    assert_eq!(rt; (rd.name.as_str(), rd.ctype), ("rd", CType::Int));
+    assert_eq!(rt; (imm.name.as_str(), imm.ctype), ("imm", CType::I64));
+    assert_eq!(rt;
+        (e.name.as_str(), e.members.items().len(), e.outside),
+        ("e", 0, true)
     );
-    assert!(rt; matches!(read, Ok(None)));
+    let [format] = model.formats.items() else {
+        return Err("a format".into());
+    };
+    assert_eq!(rt; (format.name.as_str(), format.set), ("decode_Fmt_0", 1));
+    Ok(())
+}
+
+#[test]
+fn names_that_are_taken(rt: HostRuntime) -> Result<(), Fail> {
+    let decode1 = Name::from_bytes(b"decode1").ok_or("a name")?;
+    let p = Name::from_bytes(b"p").ok_or("a name")?;
+    let table: [(&[u8], (u32, Rule, Detail)); 4] = [
+        (
+            b"&decode1 a\nq ----------------",
+            (2, Rule::G28, Detail::Named(decode1)),
+        ),
+        (
+            b"&p a\np ----------------",
+            (2, Rule::G26, Detail::Named(p)),
+        ),
+        (b"p ----------------\n&p", (2, Rule::A3, Detail::Named(p))),
+        (b"&p a\n&p b a", (2, Rule::A3, Detail::Named(p))),
+    ];
+    for (bytes, expected) in table {
+        assert!(rt; is_fault(rt.alloc(), Width::W16, bytes, expected)?);
+    }
+    let model = model_of(read(rt.alloc(), Width::W16, b"&p\np ----------------")?)?;
+    assert_eq!(rt; model.sets.items().len(), 1);
+    Ok(())
 }
 
 #[test]

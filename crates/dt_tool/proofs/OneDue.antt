@@ -2,7 +2,6 @@
 use Rattle.std.proofs.Common.{◌≡◌, ℕ, ◌<◌, ◌≤◌, List, [], ◌∷◌, length, Option, Some, None, refl, ap, sym, ◌∙◌, arith, inl, inr}
 use Rattle.std.specs.FinMap as files_by_name
 use Rattle.std.proofs.lemmas.Bool.{cases_lt}
-use Rattle.dt_values.specs.Widths.{width_bits}
 use Rattle.dt_io.specs.Files.{Files}
 use Rattle.dt_lines.specs.declared.scan.TheConstants.{LARGEST_FILE}
 use Rattle.dt_forms.specs.Options.{default_options}
@@ -12,7 +11,7 @@ use Rattle.dt_tool.specs.Messages as said
 use Rattle.dt_tool.specs.Words.{file_named}
 
 of_files : (names texts : List (List ℕ)) (one other : Due) → IsDueOfFiles names texts one → IsDueOfFiles names texts other → one ≡ other
-of_files names texts one other h k = sym h.due ∙ ap (due_of_verdict names texts) (one_verdict (width_bits default_options.width) texts h.verdict k.verdict h.stands k.stands) ∙ k.due
+of_files names texts one other h k = sym h.due ∙ ap (due_of_verdict names texts) (one_verdict default_options texts h.verdict k.verdict h.stands k.stands) ∙ k.due
 
 not_both_sizes : (bytes : List ℕ) → LARGEST_FILE < length bytes → length bytes ≤ LARGEST_FILE → ⊥
 not_both_sizes bytes large small = omega arith
@@ -36,7 +35,7 @@ one_due words files one other h k = of_words (file_named words) files one other 
 
 some_of_files : (names texts : List (List ℕ)) → (what : Due) × IsDueOfFiles names texts what
 some_of_files names texts =
-    let v = some_verdict (width_bits default_options.width) texts in
+    let v = some_verdict default_options texts in
     (due_of_verdict names texts v.0, record { verdict = v.0; stands = v.1; due = refl })
 
 some_of_content : (file bytes : List ℕ) → (what : Due) × IsDueOf file bytes what

@@ -2,19 +2,21 @@
 use Rattle.std.proofs.Common.{◌≡◌, ℕ, ◌≤◌, List, [], ◌∷◌, length, Option, Some, None, refl, ap, sym, ◌∙◌, subst, inr}
 use Rattle.std.specs.Prelude.{Result, Ok, Err, Vec, IsErrAnd}
 use Rattle.std.specs.Option.{option_map, option_or}
-use Rattle.dt_values.specs.Widths.{width_bits}
 use Rattle.dt_lines.specs.Faults.{FileFault, too_many_lines, long_name, line_fault}
 use Rattle.dt_lines.specs.declared.scan.TheConstants.{LARGEST_FILE}
-use Rattle.dt_fields.specs.declared.rule.Detail.{Detail as Made}
-use Rattle.dt_fields.specs.declared.rule.Detail.TheVariants as details
+use Rattle.dt_fields.specs.declared.fault.Detail.{Detail as Made}
+use Rattle.dt_fields.specs.declared.fault.Detail.TheVariants as details
 use Rattle.dt_forms.specs.declared.fault.Fault.{Fault as Reported}
 use Rattle.dt_forms.specs.declared.fault.ModelFault.{ModelFault}
 use Rattle.dt_forms.specs.declared.fault.ModelFault.TheVariants as faults
 use Rattle.dt_forms.specs.FileFaults.{fault_in_file, file_fault, first_broken}
 use Rattle.dt_forms.specs.Options.{default_options}
-use Rattle.dt_forms.specs.Patterns.{FlatPattern, flat_list}
-use Rattle.dt_forms.specs.Rules.{Detail, nothing, Fault, first_fault}
-use Rattle.dt_forms.specs.View.{IsDetailWithin, FileBroken, detail_seen, fault_seen}
+use Rattle.dt_forms.specs.Models.{flat_list}
+use Rattle.dt_forms.specs.Patterns.{FlatPattern}
+use Rattle.dt_fields.specs.Faults.{Detail, nothing}
+use Rattle.dt_forms.specs.Rules.{Fault, first_fault}
+use Rattle.dt_fields.specs.View.{IsDetailWithin, detail_seen}
+use Rattle.dt_forms.specs.View.{FileBroken, fault_seen}
 use Rattle.dt_tree.specs.Refusals.{ShowsFirstKnot}
 use Rattle.dt_tree.specs.Verdicts.{broken, overlapping}
 use Rattle.dt_tool.specs.Due.{refused, IsDueOf}
@@ -63,15 +65,15 @@ file_refused names bytes (faults.Broken fault) stop h says =
 file_refused names bytes faults.NoMemory stop h says = no_fault names (file_fault 0 bytes) stop says
 
 -- what one file breaks first: what the whole file does, else what its lines do
-of_file : (bytes : List ℕ) (found expected : Option Fault) → file_fault 0 bytes ≡ found → option_or (option_or found None) (first_fault (width_bits default_options.width) (bytes ∷ [])) ≡ expected
-    → first_broken (width_bits default_options.width) (bytes ∷ []) ≡ expected
-of_file bytes found expected is e = ap (λ f. option_or (option_or f None) (first_fault (width_bits default_options.width) (bytes ∷ []))) is ∙ e
+of_file : (bytes : List ℕ) (found expected : Option Fault) → file_fault 0 bytes ≡ found → option_or (option_or found None) (first_fault default_options (bytes ∷ [])) ≡ expected
+    → first_broken default_options (bytes ∷ []) ≡ expected
+of_file bytes found expected is e = ap (λ f. option_or (option_or f None) (first_fault default_options (bytes ∷ []))) is ∙ e
 
-pub unbroken : (bytes : List ℕ) → file_fault 0 bytes ≡ None → first_fault (width_bits default_options.width) (bytes ∷ []) ≡ None → first_broken (width_bits default_options.width) (bytes ∷ []) ≡ None
+pub unbroken : (bytes : List ℕ) → file_fault 0 bytes ≡ None → first_fault default_options (bytes ∷ []) ≡ None → first_broken default_options (bytes ∷ []) ≡ None
 unbroken bytes whole lines = of_file bytes None None whole lines
 
 broken_due : (A : Type 0) (file bytes : List ℕ) (expected : Option Fault) (stop : Stop) → length bytes ≤ LARGEST_FILE
-    → ((fault : Fault) → expected ≡ Some fault → first_broken (width_bits default_options.width) (bytes ∷ []) ≡ Some fault)
+    → ((fault : Fault) → expected ≡ Some fault → first_broken default_options (bytes ∷ []) ≡ Some fault)
     → RefusesFault stop (file ∷ []) expected → AnswersDue {A = A} ⊥ (Err stop) (IsDueOf file bytes)
 broken_due A file bytes expected stops.Usage small first h = absurd h
 broken_due A file bytes expected (stops.ReadFault message) small first h = absurd h
@@ -84,12 +86,12 @@ pub file_due : (A : Type 0) (file bytes : List ℕ) (stop : Stop) → length byt
 file_due A file bytes stop small h = broken_due A file bytes (file_fault 0 bytes) stop small (λ fault is. of_file bytes (Some fault) (Some fault) is refl) h
 
 pub lines_due : (A : Type 0) (file bytes : List ℕ) (stop : Stop) → length bytes ≤ LARGEST_FILE → file_fault 0 bytes ≡ None
-    → RefusesFault stop (file ∷ []) (first_fault (width_bits default_options.width) (bytes ∷ [])) → AnswersDue {A = A} ⊥ (Err stop) (IsDueOf file bytes)
-lines_due A file bytes stop small whole h = broken_due A file bytes (first_fault (width_bits default_options.width) (bytes ∷ [])) stop small (λ fault is. of_file bytes None (Some fault) whole is) h
+    → RefusesFault stop (file ∷ []) (first_fault default_options (bytes ∷ [])) → AnswersDue {A = A} ⊥ (Err stop) (IsDueOf file bytes)
+lines_due A file bytes stop small whole h = broken_due A file bytes (first_fault default_options (bytes ∷ [])) stop small (λ fault is. of_file bytes None (Some fault) whole is) h
 
 -- and one of its overlaps
-pub knot_due : (A : Type 0) (file bytes : List ℕ) (ps : List FlatPattern) (stop : Stop) → length bytes ≤ LARGEST_FILE → first_broken (width_bits default_options.width) (bytes ∷ []) ≡ None
-    → ps ≡ flat_list (bytes ∷ []) → RefusesKnot stop (file ∷ []) (bytes ∷ []) ps → AnswersDue {A = A} ⊥ (Err stop) (IsDueOf file bytes)
+pub knot_due : (A : Type 0) (file bytes : List ℕ) (ps : List FlatPattern) (stop : Stop) → length bytes ≤ LARGEST_FILE → first_broken default_options (bytes ∷ []) ≡ None
+    → ps ≡ flat_list default_options (bytes ∷ []) → RefusesKnot stop (file ∷ []) (bytes ∷ []) ps → AnswersDue {A = A} ⊥ (Err stop) (IsDueOf file bytes)
 knot_due A file bytes ps stops.Usage small none are h = absurd h
 knot_due A file bytes ps (stops.ReadFault message) small none are h = absurd h
 knot_due A file bytes ps (stops.Refused message) small none are h =

@@ -5,8 +5,7 @@ use Rattle.dt_io.specs.Bytes.{extend}
 use Rattle.dt_io.specs.Files.{Files}
 use Rattle.dt_io.specs.Folders.{IsOnlyRead}
 use Rattle.dt_io.specs.Sinks.{SinkSeen, IsOnlyWritten, Reports}
-use Rattle.dt_forms.specs.Patterns.{flat_list}
-use Rattle.c_writer.specs.Decoders.{IsDecoder, AppendsDecoder}
+use Rattle.dt_tool.specs.Decoders.{IsDecoderOf, AppendsDecoderOf}
 use Rattle.dt_tool.specs.Due.{written, refused, CanBeDue, IsDue, input}
 use Rattle.dt_tool.specs.Outcomes.{RunSeen, IsRight, IsRightOver, WritesText, message_for}
 use Rattle.dt_tool.specs.Words.{file_named}
@@ -30,14 +29,14 @@ reports_nothing before after same =
 only_two : (P : Type 0) (outcome other : Outcome) → (outcome ≡ outcomes.Done) ⊎ (outcome ≡ outcomes.WriteFault) → outcomes.Done ≢ other → outcomes.WriteFault ≢ other → outcome ≡ other → P
 only_two P outcome other either done fault is = elim either [ inl d ↦ absurd (done (subst (λ o. o ≡ other) d is)) | inr f ↦ absurd (fault (subst (λ o. o ≡ other) f is)) ]
 
-append_decoder : {R : Type 0} (before after : SinkSeen R) (text : List ℕ) (named : Option (List ℕ)) → after.written ≡ extend before.written text → IsSomeAnd named (λ bytes. IsDecoder text (flat_list (bytes ∷ [])))
-    → IsSomeAnd named (λ bytes. AppendsDecoder before.written after.written (flat_list (bytes ∷ [])))
+append_decoder : {R : Type 0} (before after : SinkSeen R) (text : List ℕ) (named : Option (List ℕ)) → after.written ≡ extend before.written text → IsSomeAnd named (λ bytes. IsDecoderOf (bytes ∷ []) text)
+    → IsSomeAnd named (λ bytes. AppendsDecoderOf (bytes ∷ []) before.written after.written)
 append_decoder before after text None whole h = h
 append_decoder before after text (Some bytes) whole h = record { text = text; decoder = h; written = whole }
 
 module _ {O E : Type 0} (run : RunSeen O E) where
   text_over : (text : List ℕ) (known : Option Files) → IfSome known (λ files. IsDue run.words files (written text))
-      → IfSome known (λ files. IsSomeAnd (input run.words files) (λ bytes. IsDecoder text (flat_list (bytes ∷ []))))
+      → IfSome known (λ files. IsSomeAnd (input run.words files) (λ bytes. IsDecoderOf (bytes ∷ []) text))
       → WritesText text run.outcome run.out run.out_after run.err run.err_after → IfSome known (IsRightOver run)
   text_over text None due decoder writes = tt
   text_over text (Some files) due decoder writes = record {
@@ -51,7 +50,7 @@ module _ {O E : Type 0} (run : RunSeen O E) where
 
   -- a text was made
   pub right_text : (text : List ℕ) → (file_named run.words ≡ None → ⊥) → IfSome run.folder.files (λ files. IsDue run.words files (written text)) → CanBeDue run.words (written text)
-      → IfSome run.folder.files (λ files. IsSomeAnd (input run.words files) (λ bytes. IsDecoder text (flat_list (bytes ∷ []))))
+      → IfSome run.folder.files (λ files. IsSomeAnd (input run.words files) (λ bytes. IsDecoderOf (bytes ∷ []) text))
       → IsOnlyRead run.folder run.folder_after → WritesText text run.outcome run.out run.out_after run.err run.err_after → (run.outcome ≡ outcomes.Done → run.err_after ≡ run.err) → IsRight run
   right_text text named due some decoder only writes quiet = record {
     cause = record {

@@ -1,7 +1,6 @@
 -- What is due for words over files, whatever the outside does (docs/COMMANDS.md, "Outcomes" and "Rules").
 use Rattle.std.specs.Prelude.{◌≡◌, ◌<◌, ◌≤◌, ◌⊎◌, ℕ, List, [], ◌∷◌, length, All, Option, Some, None, option_and_then}
 use Rattle.std.specs.FinMap as map
-use Rattle.dt_values.specs.Widths.{width_bits}
 use Rattle.dt_io.specs.Files.{Files}
 use Rattle.dt_lines.specs.declared.scan.TheConstants.{LARGEST_FILE}
 use Rattle.dt_forms.specs.Models.{definitions_of}
@@ -31,7 +30,7 @@ due_of_verdict names texts (overlapping positions) = refused (said.overlap_messa
 -- what is due for files of these names and texts
 pub record IsDueOfFiles (names texts : List (List ℕ)) (what : Due) : Type 0 where
   pub verdict : Verdict
-  pub stands : IsVerdict (width_bits default_options.width) texts verdict
+  pub stands : IsVerdict default_options texts verdict
   pub due : due_of_verdict names texts verdict ≡ what
 
 -- a file over its limit is refused before its text is looked at

@@ -1,5 +1,6 @@
 pub mod Words
 pub mod Messages
+pub mod Decoders
 pub mod Due
 pub mod Stops
 pub mod Refusals

@@ -7,7 +7,8 @@ use Rattle.dt_fields.specs.RuleTexts.{rule_text}
 use Rattle.dt_fields.specs.declared.rule.Rule.{Rule}
 use Rattle.dt_fields.specs.declared.rule.Rule.TheVariants as rule
 use Rattle.dt_forms.specs.Positions.{first_token_at}
-use Rattle.dt_forms.specs.Rules.{Detail, nothing, token, named, number, mask, Fault}
+use Rattle.dt_fields.specs.Faults.{Detail, nothing, token, named, number, mask}
+use Rattle.dt_forms.specs.Rules.{Fault}
 
 abbrev pub usage : List ℕ
 usage = codes "usage: N1\n"

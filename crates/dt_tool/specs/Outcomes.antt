@@ -4,8 +4,7 @@ use Rattle.dt_io.specs.Bytes.{AppendsPart, extend}
 use Rattle.dt_io.specs.Files.{Files}
 use Rattle.dt_io.specs.Folders.{FolderSeen, IsOnlyRead, Missed, ReadFailed}
 use Rattle.dt_io.specs.Sinks.{SinkSeen, IsOnlyWritten, Reports, WriteFailed}
-use Rattle.dt_forms.specs.Patterns.{flat_list}
-use Rattle.c_writer.specs.Decoders.{AppendsDecoder}
+use Rattle.dt_tool.specs.Decoders.{AppendsDecoderOf}
 use Rattle.dt_tool.specs.Due.{Due, usage, missing, refused, written, CanBeDue, IsDue, input}
 use Rattle.dt_tool.specs.Messages as said
 use Rattle.dt_tool.specs.Stops.{IsMissing}
@@ -71,7 +70,7 @@ CompletesRun run what =
 pub record IsRightOver {O E : Type 0} (run : RunSeen O E) (files : Files) : Type 0 where
   pub done : run.outcome ≡ outcomes.Done → WritesWhole (IsDue run.words files) run.out run.out_after
   pub decoder : run.outcome ≡ outcomes.Done → IsSomeAnd (input run.words files)
-      (λ bytes. AppendsDecoder run.out.written run.out_after.written (flat_list (bytes ∷ [])))
+      (λ bytes. AppendsDecoderOf (bytes ∷ []) run.out.written run.out_after.written)
   pub refused : run.outcome ≡ outcomes.Refused → SaysRefusal (IsDue run.words files) run.err run.err_after
   pub missing : run.outcome ≡ outcomes.ReadFault
       → IsMissing (IsDue run.words files) ⊎ ReadFailed run.folder run.folder_after

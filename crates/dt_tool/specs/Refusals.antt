@@ -6,7 +6,8 @@ use Rattle.dt_forms.specs.declared.fault.ModelFault.TheVariants as faults
 use Rattle.dt_forms.specs.declared.source.Source.{Source}
 use Rattle.dt_forms.specs.Patterns.{FlatPattern}
 use Rattle.dt_forms.specs.Rules.{Fault}
-use Rattle.dt_forms.specs.View.{IsDetailWithin, fault_seen, text_of_file}
+use Rattle.dt_fields.specs.View.{IsDetailWithin}
+use Rattle.dt_forms.specs.View.{fault_seen, text_of_file}
 use Rattle.dt_tree.specs.Refusals.{ShowsFirstKnot}
 use Rattle.dt_tool.specs.Due.{refused}
 use Rattle.dt_tool.specs.Messages as said

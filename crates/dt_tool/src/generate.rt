@@ -2,20 +2,18 @@
 
 ghost use Rattle.std.specs.Prelude.{◌≡◌, ◌<◌, ◌≤◌, ◌↔◌, ◌∷◌, [], All, Err, None, length, vec_len};
 ghost use Rattle.std.specs.Prelude.{IfErr, IfOk, IfSome, IsSomeAnd, MatchResult, OnOk};
-ghost use Rattle.dt_values.specs.Widths.{width_bits};
 ghost use Rattle.dt_io.specs.Files.{Held};
 ghost use Rattle.dt_io.specs.Folders.{IsOnlyRead, ReadFailed};
 ghost use Rattle.dt_forms.specs.FileFaults.{file_fault};
 ghost use Rattle.dt_forms.specs.Models.{IsModelOf};
 ghost use Rattle.dt_forms.specs.Options.{IsOptions};
-ghost use Rattle.dt_forms.specs.Patterns.{flat_list};
 ghost use Rattle.dt_forms.specs.Rules.{first_fault};
 ghost use Rattle.dt_forms.specs.Sound.{IsSound};
 ghost use Rattle.dt_forms.specs.Sources.{AreSources, IsSourceAt};
 ghost use Rattle.dt_forms.specs.Trees.{entries_of, items_of};
 ghost use Rattle.dt_forms.specs.View.{texts_of};
 ghost use Rattle.dt_tree.specs.Knots.{IsParted, patterns_of};
-ghost use Rattle.c_writer.specs.Decoders.{IsDecoder};
+ghost use Rattle.dt_tool.specs.Decoders.{IsDecoderOf};
 ghost use Rattle.dt_tool.specs.Due.{IsDue, IsDueOf, input};
 ghost use Rattle.dt_tool.specs.Refusals.{IsFaultWithin, RefusesFault, RefusesKnot, SaysFault};
 ghost use Rattle.dt_tool.specs.Stops.{AnswersDue, IsForSome, SaysUnread, StopsLoad};
@@ -56,7 +54,7 @@ pub fn generate<D: Folder>(alloc: Global, words: &[String], folder: &mut D) -> R
         AnswersDue (ReadFailed (D.seen folder.old) (D.seen folder.new)) result (IsDue (texts words.now) files)) }
     ensures some { IsForSome result (texts words.now) }
     ensures decoder { IfOk result (λ text. IfSome (D.seen folder.old).files (λ files.
-        IsSomeAnd (input (texts words.now) files) (λ bytes. IsDecoder text.items (flat_list (bytes ∷ []))))) }
+        IsSomeAnd (input (texts words.now) files) (λ bytes. IsDecoderOf (bytes ∷ []) text.items))) }
     ensures usage_reads_nothing { result ≡ Err Stop.Usage → folder.new ≡ folder.old }
     ensures unread { IfErr result (λ stop. IfSome (file_named (texts words.now)) (λ file.
         SaysUnread (D.seen folder.old) (D.seen folder.new) file stop)) }
@@ -91,7 +89,7 @@ fn load<D: Folder>(alloc: Global, folder: &mut D, file: &str) -> Result<Vec<u8>,
 fn generate_from(alloc: Global, file: &str, bytes: Vec<u8>) -> Result<Vec<u8>, Stop>
     requires { vec_len bytes ≤ LARGEST_FILE }
     ensures due { AnswersDue ⊥ result (IsDueOf file.now bytes.items) }
-    ensures decoder { IfOk result (λ text. IsDecoder text.items (flat_list (bytes.items ∷ []))) }
+    ensures decoder { IfOk result (λ text. IsDecoderOf (bytes.items ∷ []) text.items) }
 {
     let options = Options::default();
     let names = [file];
@@ -147,9 +145,9 @@ fn model_of(alloc: Global, options: &Options, inputs: Inputs) -> Result<Model, S
     requires sources { AreSources inputs.sources.now }
     ensures model { IfOk result (IsModelOf options.now (texts_of inputs.entry.sources.now)) }
     ensures sound { IfOk result IsSound }
-    ensures kept { OnOk result (first_fault (width_bits options.now.width) (texts_of inputs.entry.sources.now) ≡ None) }
+    ensures kept { OnOk result (first_fault options.now (texts_of inputs.entry.sources.now) ≡ None) }
     ensures stop { IfErr result (λ stop. RefusesFault stop (names_seen inputs.entry.names.now)
-        (first_fault (width_bits options.now.width) (texts_of inputs.entry.sources.now))) }
+        (first_fault options.now (texts_of inputs.entry.sources.now))) }
 {
     match read_model(alloc, options, inputs.sources) {
         Ok(model) => Ok(model),

@@ -3,7 +3,8 @@
 ghost use Rattle.std.specs.Prelude.{◌≡◌, codes, flat_map, IfOk};
 ghost use Rattle.dt_text.specs.Puts.{Puts};
 ghost use Rattle.dt_forms.specs.Sources.{AreSources};
-ghost use Rattle.dt_forms.specs.View.{IsDetailWithin, detail_seen, fault_seen, text_of_file, texts_of};
+ghost use Rattle.dt_fields.specs.View.{IsDetailWithin, detail_seen};
+ghost use Rattle.dt_forms.specs.View.{fault_seen, text_of_file, texts_of};
 ghost use Rattle.dt_tool.specs.Messages as said;
 ghost use Rattle.dt_tool.specs.Words.{names_seen};
 

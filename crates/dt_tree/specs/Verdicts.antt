@@ -2,7 +2,8 @@
 use Rattle.std.specs.Prelude.{ℕ, ◌≡◌, List, Some, None}
 use Rattle.dt_lines.specs.declared.line.Position.{Position}
 use Rattle.dt_forms.specs.FileFaults.{first_broken}
-use Rattle.dt_forms.specs.Patterns.{flat_list}
+use Rattle.dt_forms.specs.Models.{flat_list}
+use Rattle.dt_forms.specs.declared.options.Options.{Options}
 use Rattle.dt_forms.specs.Rules.{Fault}
 use Rattle.dt_tree.specs.Knots.{IsParted}
 use Rattle.dt_tree.specs.Refusals.{ShowsFirstKnot}
@@ -14,8 +15,8 @@ pub data Verdict : Type 0 where
   overlapping : List Position → Verdict
 
 -- overlaps are looked at where no line of the files breaks a rule
-abbrev pub IsVerdict : ℕ → List (List ℕ) → Verdict → Type 0
-IsVerdict width texts kept = (first_broken width texts ≡ None) × IsParted (flat_list texts)
-IsVerdict width texts (broken fault) = first_broken width texts ≡ Some fault
-IsVerdict width texts (overlapping positions) =
-    (first_broken width texts ≡ None) × ShowsFirstKnot (flat_list texts) positions
+abbrev pub IsVerdict : Options → List (List ℕ) → Verdict → Type 0
+IsVerdict options texts kept = (first_broken options texts ≡ None) × IsParted (flat_list options texts)
+IsVerdict options texts (broken fault) = first_broken options texts ≡ Some fault
+IsVerdict options texts (overlapping positions) =
+    (first_broken options texts ≡ None) × ShowsFirstKnot (flat_list options texts) positions

@@ -1,6 +1,7 @@
 //! Laws of knots and verdicts: public functions whose contracts are the laws, and whose bodies are empty.
 
 ghost use Rattle.std.specs.Prelude.{◌≡◌, ◌<◌, ◌↔◌, ◌⊎◌, ℕ, List, ◌++◌, length, All, Contains};
+ghost use Rattle.dt_forms.specs.declared.options.Options.{Options};
 ghost use Rattle.dt_forms.specs.Patterns.{FlatPattern, Matches};
 ghost use Rattle.dt_tree.specs.Knots.{pattern_at, IsKnot, IsParted, IsFirstKnot, IsWhole, HaveOneWord};
 ghost use Rattle.dt_tree.specs.Verdicts.{Verdict, IsVerdict};
@@ -36,7 +37,7 @@ pub fn law_whole_knots()
 
 /// Files have exactly one verdict.
 pub fn law_one_verdict()
-    ensures one { (width : ℕ) (texts : List (List ℕ)) (one other : Verdict) → IsVerdict width texts one
-        → IsVerdict width texts other → one ≡ other }
-    ensures some { (width : ℕ) (texts : List (List ℕ)) → (verdict : Verdict) × IsVerdict width texts verdict }
+    ensures one { (options : Options) (texts : List (List ℕ)) (one other : Verdict) → IsVerdict options texts one
+        → IsVerdict options texts other → one ≡ other }
+    ensures some { (options : Options) (texts : List (List ℕ)) → (verdict : Verdict) × IsVerdict options texts verdict }
 {}

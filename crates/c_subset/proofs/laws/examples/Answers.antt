@@ -2,7 +2,7 @@ use Rattle.std.proofs.Common.{refl}
 use Rattle.c_subset.specs.Tokens.{read}
 use Rattle.dt_text.specs.Hexadecimal.{hex}
 use Rattle.c_subset.specs.Programs.{spelling}
-use Rattle.c_subset.proofs.ExampleRules.{empty_keeps, nop_keeps}
+use Rattle.c_subset.proofs.ExampleRules.{empty_keeps, nop_keeps, arguments_keep}
 use Rattle.c_subset.proofs.laws.examples.Goals as goal
 
 pub returns-clause-tokens : goal.returns-clause-tokens
@@ -16,3 +16,7 @@ returns-clause-empty c = record { rules = empty_keeps; tokens = refl }
 pub returns-clause-nop : goal.returns-clause-nop
 unfolding read spelling hex
 returns-clause-nop c = record { rules = nop_keeps; tokens = refl }
+
+pub returns-clause-arguments : goal.returns-clause-arguments
+unfolding read spelling hex
+returns-clause-arguments c = record { rules = arguments_keep; tokens = refl }

@@ -1,4 +1,4 @@
-use Rattle.dt_forms.proofs.SoundPatterns.{flat_list_sound}
+use Rattle.dt_forms.proofs.Soundness.{flat_list_sound}
 use Rattle.dt_forms.proofs.laws.law_flat_list_is_sound.Goals as goal
 
 pub returns : goal.returns

@@ -4,7 +4,7 @@ use Rattle.dt_lines.specs.Spans.{AreSpans}
 use Rattle.dt_lines.specs.declared.line.Logical.{Logical}
 use Rattle.dt_forms.proofs.reader.read_file.Goals as goal
 
-pub read_lines-requires : goal.read_lines-requires
-read_lines-requires c =
+pub read_lines-requires-clause-lines : goal.read_lines-requires-clause-lines
+read_lines-requires-clause-lines c =
     let P : List ℕ → List Logical → Type 0 = λ bs ls. All (λ l. AreSpans (length bs) l.tokens) ls in
-    subst (P c.items.result.now) (sym c.items-2.ensures) (subst (λ (bs : List ℕ). P bs c.args.source.now.lines) (sym c.items.ensures) c.requires.spans)
+    subst (P c.items.result.now) (sym c.items-2.ensures) (subst (λ (bs : List ℕ). P bs c.args.source.now.lines) (sym c.items.ensures) c.requires.source.spans)

@@ -1,13 +1,13 @@
-use Rattle.std.proofs.Common.{◌≡◌, ◌++◌, drop, map, vec_len}
-use Rattle.dt_values.specs.Widths.{width_bits}
-use Rattle.dt_forms.specs.Patterns.{pattern_lines}
-use Rattle.dt_forms.specs.Reading.{fault_in_files, pattern_lines_from, scope_of}
-use Rattle.dt_forms.specs.Rules.{first_fault}
-use Rattle.dt_forms.specs.View.{kept_pattern, texts_of}
+use Rattle.std.proofs.Common.{◌≡◌}
+use Rattle.dt_forms.specs.FileLines.{all_lines}
+use Rattle.dt_forms.specs.Rules.{after_lines, faults_from, scope_before}
+use Rattle.dt_forms.specs.Scope.{nothing_defined}
+use Rattle.dt_forms.specs.View.{texts_of}
+use Rattle.dt_forms.proofs.ReadFiles.{lines_from}
 use Rattle.dt_forms.proofs.reader.read_files.Given as goal
 
 abbrev pub invariant-loop-place : goal.invariant-loop-place
 invariant-loop-place l = record {
-  patterns : l.patterns.items ++ map kept_pattern (pattern_lines_from l.place (texts_of (drop l.place l.files))) ≡ map kept_pattern (pattern_lines (texts_of l.files));
-  faults : fault_in_files (width_bits l.width) l.place (scope_of (vec_len l.patterns)) (texts_of (drop l.place l.files)) ≡ first_fault (width_bits l.width) (texts_of l.files);
+  after : after_lines l.options l.scope (lines_from l.files l.place) ≡ scope_before l.options (all_lines (texts_of l.files));
+  faults : faults_from l.options l.scope (lines_from l.files l.place) ≡ faults_from l.options nothing_defined (all_lines (texts_of l.files));
 }

@@ -26,4 +26,4 @@ returns-in_err-refuse_overlaps-clause-due c =
     let same = c.in_ok-source_of.ensures.bytes in
     handed_on (λ r. AnswersDue ⊥ r (IsDueOf c.args.file.now c.args.bytes.items)) c.from_residual-in_err-refuse_overlaps.result c.in_err-refuse_overlaps.field-0.0 c.from_residual-in_err-refuse_overlaps.ensures.1
     (knot_due Global c.args.file.now c.args.bytes.items _ c.in_err-refuse_overlaps.field-0.0 small
-    (unbroken c.args.bytes.items c.in_ok-source_of.ensures.kept (rw (asked, same) at c.in_ok-model.ensures.kept)) (rw same at c.in_ok-model.ensures.model.flat) (rw same at c.in_err-refuse_overlaps.ensures.stop))
+    (unbroken c.args.bytes.items c.in_ok-source_of.ensures.kept (rw (asked, same) at c.in_ok-model.ensures.kept)) (rw (asked, same) at c.in_ok-model.ensures.model.flat) (rw same at c.in_err-refuse_overlaps.ensures.stop))

@@ -1,0 +1,62 @@
+-- The names that patterns use, one pattern more at a time.
+use Rattle.std.proofs.Common.{◌≡◌, ℕ, ◌+◌, ◌<◌, ◌||◌, List, [], ◌∷◌, ◌++◌, length, take, get_or, map, filter, Bool, true, false, refl, sym, ap, ◌∙◌, subst}
+use Rattle.std.specs.Prelude.{nat_eq, if◌then◌else◌}
+use Rattle.std.specs.List.{list_any}
+use Rattle.std.specs.Cmp.Lexicographic.{pointwise, nat_list_eq_equiv}
+use Rattle.std.proofs.lemmas.List.{map_more}
+use Rattle.std.proofs.lemmas.List.Folds.{list_any-append}
+use Rattle.std.proofs.lemmas.Map.Steps.{list_any_congr}
+use Rattle.indexmap.specs.IndexSet.{insert_key}
+use Rattle.dt_values.specs.Types.{is_text}
+use Rattle.c_subset.specs.Programs.{Name, Extraction}
+use Rattle.c_writer.specs.Parts.{NamedPattern}
+use Rattle.c_writer.specs.Uses.{is_format_used, is_among}
+
+-- a name that is there already changes nothing
+again : (names : List Name) (n x : Name) (b : Bool) → is_text x n ≡ b → is_among names n ≡ true → is_among names x ≡ (is_among names x || b)
+again names n x true same there = rw (list_any_congr nat_list_eq_equiv x n names same ∙ there) refl
+again names n x false other there = or_false (is_among names x)
+  where
+    or_false : (c : Bool) → c ≡ (c || false)
+    or_false true = refl
+    or_false false = refl
+
+or_one : (a b : Bool) → (a || (b || false)) ≡ (a || b)
+or_one true b = refl
+or_one false true = refl
+or_one false false = refl
+
+insert_by : (names : List Name) (n x : Name) (b : Bool) → is_among names n ≡ b → is_among (if b then names else names ++ n ∷ []) x ≡ (is_among names x || is_text x n)
+insert_by names n x true there = again names n x (is_text x n) refl there
+insert_by names n x false there = list_any-append (is_text x) names (n ∷ []) ∙ or_one (is_among names x) (is_text x n)
+
+among-insert_key : (names : List Name) (n x : Name) → is_among (insert_key (pointwise nat_eq) names n) x ≡ (is_among names x || is_text x n)
+among-insert_key names n x = insert_by names n x (is_among names n) refl
+
+-- names that tell which ones the items of a list have
+abbrev pub TellNames : {X : Type 0} → (X → Name) → List Name → List X → Type 0
+TellNames name_of names qs = is_among names ≡ (λ n. list_any (λ q. is_text n (name_of q)) qs)
+
+tell_push : {X : Type 0} (name_of : X → Name) (names more : List Name) (n : Name) (qs : List X) (q : X) → n ≡ name_of q
+    → more ≡ insert_key (pointwise nat_eq) names n → TellNames name_of names qs → TellNames name_of more (qs ++ q ∷ [])
+tell_push name_of names more n qs q is inserted tell i x =
+    (ap (λ l. is_among l x) inserted
+    ∙ among-insert_key names n x
+    ∙ ap (λ t. t x || is_text x n) tell
+    ∙ ap (λ m. list_any (λ r. is_text x (name_of r)) qs || is_text x m) is
+    ∙ sym (or_one (list_any (λ r. is_text x (name_of r)) qs) (is_text x (name_of q)))
+    ∙ sym (list_any-append (λ r. is_text x (name_of r)) qs (q ∷ []))) i
+
+-- one pattern more in a loop over patterns
+pub tell_more : {X : Type 0} (name_of : NamedPattern → Name) (view : X → NamedPattern) (names more : List Name) (n : Name) (xs : List X) (i : ℕ) (x : X)
+    → i < length xs → x ≡ get_or xs i x → n ≡ name_of (view x)
+    → more ≡ insert_key (pointwise nat_eq) names n → TellNames name_of names (map view (take i xs)) → TellNames name_of more (map view (take (i + 1) xs))
+tell_more name_of view names more n xs i x below same is inserted tell =
+    subst (λ qs. TellNames name_of more qs)
+    (ap (λ y. map view (take i xs) ++ view y ∷ []) same ∙ sym (map_more view xs i x below))
+    (tell_push name_of names more n (map view (take i xs)) (view x) is inserted tell)
+
+-- the extractions of formats with these names are those of used formats
+pub same_extractions : (names : List Name) (qs : List NamedPattern) (es : List Extraction) → is_among names ≡ is_format_used qs
+    → filter (λ e. is_among names e.format) es ≡ filter (λ e. is_format_used qs e.format) es
+same_extractions names qs es tell = ap (λ (test : Name → Bool). filter (λ (e : Extraction). test e.format) es) tell

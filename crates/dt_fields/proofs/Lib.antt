@@ -1,0 +1,13 @@
+pub mod Added
+pub mod Cuts
+pub mod Decimals
+pub mod FieldLines
+pub mod FirstFaults
+pub mod KeptFields
+pub mod KeptSets
+pub mod Keyed
+pub mod MarkedNames
+pub mod NewNames
+pub mod Parts
+pub mod Rows
+pub mod SetLines

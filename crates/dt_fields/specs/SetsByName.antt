@@ -1,0 +1,8 @@
+-- Argument sets by name. This is this project's.
+use Rattle.std.specs.Prelude.{ℕ, List, Option, nat_eq, find}
+use Rattle.std.specs.Cmp.Lexicographic.{pointwise}
+use Rattle.dt_fields.specs.declared.set.SetDef.{SetDef}
+
+-- the set of this name
+abbrev pub set_at : List SetDef → List ℕ → Option SetDef
+set_at sets name = find (λ s. pointwise nat_eq name s.name) sets

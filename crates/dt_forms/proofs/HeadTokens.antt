@@ -1,0 +1,91 @@
+-- The first tokens of lines that define fields and sets.
+use Rattle.std.proofs.Common.{◌≡◌, ℕ, ◌==◌, ◌&&◌, Bool, true, false, List, [], ◌∷◌, map, refl, ap, ◌∙◌, sym, subst}
+use Rattle.std.specs.Prelude.{IsTrue, if◌then◌else◌}
+use Rattle.dt_values.specs.Names.{is_name, IsName}
+use Rattle.dt_lines.specs.Spans.{text_at}
+use Rattle.dt_lines.specs.declared.line.Span.{Span}
+use Rattle.dt_fields.specs.FieldLines.{begins_field}
+use Rattle.dt_fields.specs.SetLines.{begins_set}
+use Rattle.dt_forms.specs.declared.head.Head.{Head}
+use Rattle.dt_forms.specs.declared.head.Head.TheVariants as head
+use Rattle.dt_forms.specs.Heads.{head_of, is_group_mark, marked_head, named_head}
+
+-- heads by their tests
+abbrev marked : Bool → Bool → Bool → Bool → List ℕ → Head
+marked at_sign named percent ampersand name =
+    if at_sign then head.Format
+    else if named then
+    if percent then head.Field name
+    else if ampersand then head.Set name
+    else head.None
+    else head.None
+
+field_marked : (at_sign named percent ampersand : Bool) (name n : List ℕ) → marked at_sign named percent ampersand name ≡ head.Field n → IsTrue (percent && named)
+field_marked true named percent ampersand name n h = absurd (cc)
+field_marked false true true ampersand name n h = refl
+field_marked false true false true name n h = absurd (cc)
+field_marked false true false false name n h = absurd (cc)
+field_marked false false percent ampersand name n h = absurd (cc)
+
+set_marked : (at_sign named percent ampersand : Bool) (name n : List ℕ) → marked at_sign named percent ampersand name ≡ head.Set n → IsTrue (ampersand && named)
+set_marked true named percent ampersand name n h = absurd (cc)
+set_marked false true true ampersand name n h = absurd (cc)
+set_marked false true false true name n h = refl
+set_marked false true false false name n h = absurd (cc)
+set_marked false false percent ampersand name n h = absurd (cc)
+
+field_named : (first n : List ℕ) → named_head first ≡ head.Field n → IsTrue (begins_field (first ∷ []))
+field_named [] n h = absurd (cc)
+field_named (b ∷ bs) n h = by (is_name (b ∷ bs)) h
+  where
+    by : (named : Bool) → (if named then head.Pattern (b ∷ bs) else marked_head b bs) ≡ head.Field n → IsTrue (begins_field ((b ∷ bs) ∷ []))
+    by true e = absurd (cc)
+    by false e = field_marked (b == 64) (is_name bs) (b == 37) (b == 38) bs n e
+
+set_named : (first n : List ℕ) → named_head first ≡ head.Set n → IsTrue (begins_set (first ∷ []))
+set_named [] n h = absurd (cc)
+set_named (b ∷ bs) n h = by (is_name (b ∷ bs)) h
+  where
+    by : (named : Bool) → (if named then head.Pattern (b ∷ bs) else marked_head b bs) ≡ head.Set n → IsTrue (begins_set ((b ∷ bs) ∷ []))
+    by true e = absurd (cc)
+    by false e = set_marked (b == 64) (is_name bs) (b == 37) (b == 38) bs n e
+
+by_group : (group : Bool) (first : List ℕ) (h : Head) → (if group then head.Group else named_head first) ≡ h → (head.Group ≡ h → ⊥) → named_head first ≡ h
+by_group true first h e other = absurd (other e)
+by_group false first h e other = e
+
+pub begins_with_field : (source : List ℕ) (tokens rest : List Span) (first : Span) (n : List ℕ) → tokens ≡ first ∷ rest → head_of (text_at source first) ≡ head.Field n → IsTrue (begins_field (map (text_at source) tokens))
+begins_with_field source tokens rest first n e h =
+    ap (λ ts. begins_field (map (text_at source) ts)) e
+    ∙ field_named (text_at source first) n (by_group (is_group_mark (text_at source first)) (text_at source first) (head.Field n) h (λ x. absurd (cc)))
+
+pub begins_with_set : (source : List ℕ) (tokens rest : List Span) (first : Span) (n : List ℕ) → tokens ≡ first ∷ rest → head_of (text_at source first) ≡ head.Set n → IsTrue (begins_set (map (text_at source) tokens))
+begins_with_set source tokens rest first n e h =
+    ap (λ ts. begins_set (map (text_at source) ts)) e
+    ∙ set_named (text_at source first) n (by_group (is_group_mark (text_at source first)) (text_at source first) (head.Set n) h (λ x. absurd (cc)))
+
+-- a pattern's head is the name itself
+named_pattern : (first n : List ℕ) → named_head first ≡ head.Pattern n → (first ≡ n) × IsName n
+named_pattern [] n h = absurd (cc)
+named_pattern (b ∷ bs) n h = by (is_name (b ∷ bs)) refl h
+  where
+    no_pattern : (at_sign named percent ampersand : Bool) → marked at_sign named percent ampersand bs ≡ head.Pattern n → ⊥
+    no_pattern true named percent ampersand e = cc
+    no_pattern false true true ampersand e = cc
+    no_pattern false true false true e = cc
+    no_pattern false true false false e = cc
+    no_pattern false false percent ampersand e = cc
+
+    by : (named : Bool) → is_name (b ∷ bs) ≡ named → (if named then head.Pattern (b ∷ bs) else marked_head b bs) ≡ head.Pattern n → (b ∷ bs ≡ n) × IsName n
+    by true e f = let same : b ∷ bs ≡ n = cc in (same, subst IsName same e)
+    by false e f = absurd (no_pattern (b == 64) (is_name bs) (b == 37) (b == 38) f)
+
+pub pattern_is_first : (first n : List ℕ) → head_of first ≡ head.Pattern n → first ≡ n
+pattern_is_first first n h = (named_pattern first n (by_group (is_group_mark first) first (head.Pattern n) h (λ x. absurd (cc)))).0
+
+pub pattern_is_named : (first n : List ℕ) → head_of first ≡ head.Pattern n → IsName n
+pattern_is_named first n h = (named_pattern first n (by_group (is_group_mark first) first (head.Pattern n) h (λ x. absurd (cc)))).1
+
+-- a set's begins with its mark
+pub set_begins : (first n : List ℕ) → head_of first ≡ head.Set n → IsTrue (begins_set (first ∷ []))
+set_begins first n h = set_named first n (by_group (is_group_mark first) first (head.Set n) h (λ x. absurd (cc)))

@@ -1,0 +1,71 @@
+//! What the first token of a line says of it.
+
+ghost use Rattle.std.specs.Prelude.{◌≡◌};
+ghost use Rattle.dt_forms.specs.Heads.{head_of, is_group_mark, marked_head, named_head};
+
+use dt_values::Name;
+
+/// What a line is by its first token. A line of a group or a format isn't read yet.
+#[derive(Clone, Copy, Debug, PartialEq, Eq)]
+pub enum Head {
+    /// A brace or a bracket alone.
+    Group,
+    /// `@` begins the token.
+    Format,
+    /// `%` and a name.
+    Field(Name),
+    /// `&` and a name.
+    Set(Name),
+    /// A name alone.
+    Pattern(Name),
+    /// None of these.
+    None,
+}
+
+/// What a line with this first token is.
+pub fn head_of(text: &[u8]) -> Head
+    ensures { result ≡ head_of text.now }
+{
+    if is_group_mark(text) {
+        return Head::Group;
+    }
+    named_head(text)
+}
+
+// Whether the token is a brace or a bracket.
+fn is_group_mark(token: &[u8]) -> bool
+    ensures { result ≡ is_group_mark token.now }
+{
+    token == b"{".as_slice()
+        || token == b"}".as_slice()
+        || token == b"[".as_slice()
+        || token == b"]".as_slice()
+}
+
+fn named_head(text: &[u8]) -> Head
+    ensures { result ≡ named_head text.now }
+{
+    if let Some(name) = Name::from_bytes(text) {
+        return Head::Pattern(name);
+    }
+    match text.split_first() {
+        None => Head::None,
+        Some((mark, name)) => marked_head(*mark, name),
+    }
+}
+
+fn marked_head(mark: u8, name: &[u8]) -> Head
+    ensures { result ≡ marked_head mark name.now }
+{
+    if mark == b'@' {
+        return Head::Format;
+    }
+    let Some(name) = Name::from_bytes(name) else {
+        return Head::None;
+    };
+    match mark {
+        b'%' => Head::Field(name),
+        b'&' => Head::Set(name),
+        _ => Head::None,
+    }
+}
