@@ -1,8 +1,9 @@
 -- What a program of the C subset does at a word (docs/C_SUBSET.md, "The meaning of a run").
 use Rattle.std.specs.Prelude.{ℕ, ◌+◌, ℤ, ◌==◌, ◌&&◌, bit_and, Bool, true, false, is_some}
-use Rattle.std.specs.Prelude.{List, [], ◌∷◌, ◌++◌, map, find, Option, Some, None, option_map, option_and_then}
+use Rattle.std.specs.Prelude.{List, [], ◌∷◌, ◌++◌, map, Option, Some, None, option_map, option_and_then}
 use Rattle.std.specs.List.{list_any}
 use Rattle.dt_values.specs.Types.{is_text}
+use Rattle.dt_fields.specs.SetsByName.{set_at}
 use Rattle.dt_fields.specs.declared.set.SetDef.{SetDef}
 use Rattle.c_subset.specs.Programs.{Name, Stmt, on_mask, extract, call, Stmts, done, then, Program}
 use Rattle.dt_match.specs.Hosts.{Call, Host}
@@ -39,10 +40,6 @@ go_on (ended e r) next = ended e r
 abbrev pub only_where : {A : Type 0} → Bool → Option A → Option A
 only_where true x = x
 only_where false x = None
-
--- the set of this name
-abbrev pub set_at : List SetDef → Name → Option SetDef
-set_at sets name = find (λ s. is_text name s.name) sets
 
 -- a set is declared where it has its typedef in the text, or where it is one of those outside
 abbrev pub declared_set : Program → List SetDef → Name → Option SetDef

@@ -10,7 +10,8 @@ use Rattle.dt_forms.specs.Patterns.{FlatPattern, matches}
 use Rattle.c_subset.specs.Programs.{Stmts, done, Program}
 use Rattle.dt_match.specs.Hosts.{Call, Host}
 use Rattle.dt_match.specs.Trial.{Trial, call_of, after_answer, call_or_pass, trial_of}
-use Rattle.c_eval.specs.Runs.{Standing, Turn, going, ended, go_on, set_at, declared_set, is_format_declared, is_pattern_declared, after_test, run_block, after_call, end_or_go_on, run_all, Run, whole_run, at_start, run_of}
+use Rattle.dt_fields.specs.SetsByName.{set_at}
+use Rattle.c_eval.specs.Runs.{Standing, Turn, going, ended, go_on, declared_set, is_format_declared, is_pattern_declared, after_test, run_block, after_call, end_or_go_on, run_all, Run, whole_run, at_start, run_of}
 use Rattle.c_writer.specs.Agrees.{ended_with, AgreesWith}
 use Rattle.c_writer.specs.Chain.{body_then, test_then, chain, chain_program}
 use Rattle.c_writer.specs.Parts.{NamedPattern, Parts, patterns_in}

@@ -34,7 +34,7 @@ use Rattle.c_writer.specs.Parts.{Parts, set_name, format_name, extraction_of, na
 use Rattle.c_writer.specs.Chain.{chain_program}
 use Rattle.c_writer.specs.Decoders.{IsDecoder}
 use Rattle.c_writer.specs.Layout.{layout}
-use Rattle.c_eval.specs.Runs.{set_at}
+use Rattle.dt_fields.specs.SetsByName.{set_at}
 use Rattle.c_writer.specs.Sound.{HasNoArguments, IsSoundIn, HaveOneSet, AreSound}
 use Rattle.c_writer.specs.Uses.{declared_sets, outside_sets}
 use Rattle.c_writer.specs.Within.{AreWithin}

@@ -8,7 +8,7 @@ use Rattle.std.proofs.lemmas.Slice.Eq.{bytes_eq-Decides}
 use Rattle.dt_values.specs.Types.{is_text}
 use Rattle.dt_fields.specs.declared.set.SetDef.{SetDef}
 use Rattle.c_subset.specs.Programs.{Name}
-use Rattle.c_eval.specs.Runs.{set_at}
+use Rattle.dt_fields.specs.SetsByName.{set_at}
 use Rattle.c_writer.specs.Uses.{declared_sets, outside_sets}
 
 pub text_itself : (n : Name) → is_text n n ≡ true

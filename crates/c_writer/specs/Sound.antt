@@ -8,7 +8,7 @@ use Rattle.dt_fields.specs.declared.set.SetDef.{SetDef}
 use Rattle.dt_forms.specs.Sound.{IsSoundPattern}
 use Rattle.c_subset.specs.Keeps.{ExtractionNamed, SetKeeps}
 use Rattle.c_subset.specs.Programs.{Name}
-use Rattle.c_eval.specs.Runs.{set_at}
+use Rattle.dt_fields.specs.SetsByName.{set_at}
 use Rattle.c_writer.specs.Parts.{NamedPattern, Parts}
 use Rattle.c_writer.specs.Uses.{declared_sets}
 

@@ -1,4 +1,5 @@
--- The rules of field lines, `%name` and its tokens, as scripts/decodetree.py checks them. Their order is this project's.
+-- The rules of field lines, `%name` and its tokens, mostly as scripts/decodetree.py checks them. Their order is this
+-- project's, and so are the limits, P8 and the keywords of P9.
 use Rattle.std.specs.Prelude.{ℕ, ◌==◌, ◌&&◌, Bool, true, false, List, [], ◌∷◌, ◌++◌, length, drop, is_some, Some, None, nat_le, nat_lt, not}
 use Rattle.dt_fields.specs.declared.rule.Rule.TheVariants as rule
 use Rattle.dt_fields.specs.declared.field.FieldDef.{FieldDef}

@@ -1,4 +1,5 @@
--- The rules of set lines, `&name` and its tokens, as scripts/decodetree.py checks them. Their order is this project's.
+-- The rules of set lines, `&name` and its tokens, mostly as scripts/decodetree.py checks them. Their order is this
+-- project's, and so are the limit, A4 and the patterns' names of A3.
 use Rattle.std.specs.Prelude.{ℕ, ◌||◌, Bool, true, false, List, [], ◌∷◌, ◌++◌, length, drop, is_some, nat_le}
 use Rattle.std.specs.List.{list_any}
 use Rattle.dt_values.specs.Types.{is_text}

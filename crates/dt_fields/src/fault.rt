@@ -51,8 +51,8 @@ impl<T: Drop> From<AllocFailed<T>> for DefFault {
     }
 }
 
-// Refuses a line that breaks the rule.
-pub(crate) fn refuse(is_broken: bool, rule: Rule, detail: Detail) -> Result<(), DefFault>
+/// Refuses a line with this rule and detail, where it breaks the rule.
+pub fn refuse(is_broken: bool, rule: Rule, detail: Detail) -> Result<(), DefFault>
     ensures kept { OnOk result (is_broken ≡ false) }
     ensures broken { IfErr result (λ fault. (is_broken ≡ true) × (fault ≡ DefFault.Broken rule detail)) }
 {

@@ -16,7 +16,7 @@ pub mod set_lines;
 mod set_tokens;
 pub mod sets;
 
-pub use fault::{DefFault, Detail};
+pub use fault::{DefFault, Detail, refuse};
 pub use field::FieldDef;
 pub use field_lines::field_line;
 pub use fields::Fields;

@@ -13,7 +13,8 @@ use std::marker::Model;
 /// The most segments that a field has.
 pub const MOST_SEGMENTS: usize = 16;
 
-/// A part of a field. `length` is a number of bits; `signed` says that its first bit is a sign.
+/// A part of a field. `length` is a number of bits. `signed` says that an `s` stands before it: a field has a sign, which
+/// is its most significant bit, where its first segment is signed.
 #[derive(Clone, Copy, Debug, PartialEq, Eq)]
 pub enum Segment {
     /// Bits of the word. `pos` is the place of the lowest, counted from 0 at the least significant end.

@@ -1,4 +1,5 @@
--- The rules of pattern lines, and what they define, as decodetree.py checks them. The order of the rules is this project's.
+-- The rules of pattern lines, and what they define, mostly as scripts/decodetree.py checks them. The order of the rules
+-- is this project's, and so are G26 and G28.
 use Rattle.std.specs.Prelude.{ℕ, ◌+◌, ◌==◌, ◌&&◌, ◌||◌, nat_lt, Bool, false, not, is_some}
 use Rattle.std.specs.Prelude.{List, [], ◌∷◌, ◌++◌, length, map, get_or, slice_get, Option, Some, None}
 use Rattle.std.specs.List.{concat, list_any}

@@ -1,4 +1,5 @@
--- The rules of the lines of pattern files, as decodetree.py checks them. The order of the rules is this project's.
+-- The rules of the lines of pattern files, mostly as scripts/decodetree.py checks them. The order of the rules is this
+-- project's, and so are N2 and L9.
 use Rattle.std.specs.Prelude.{ℕ, ◌==◌, ◌&&◌, nat_le, Bool, true, false, not}
 use Rattle.std.specs.Prelude.{List, [], ◌∷◌, ◌++◌, length, map, Option, Some, None}
 use Rattle.std.specs.List.{list_all, list_any}

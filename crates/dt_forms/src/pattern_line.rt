@@ -19,7 +19,7 @@ use crate::options::Options;
 use crate::patterns::Patterns;
 use crate::scope::Scope;
 use crate::value::ValueList;
-use dt_fields::{DefFault, Detail, Rule, Sets};
+use dt_fields::{DefFault, Detail, Rule, Sets, refuse};
 use dt_lines::{Position, Span};
 use dt_values::{Name, Width};
 use std::alloc::Global;
@@ -68,9 +68,8 @@ fn read_bits(width: Width, source: &[u8], tokens: &[Span]) -> Result<Bits, DefFa
     let mut bits = Bits::new();
     for token in tokens {
         let text = token.text(source);
-        if text.len() > width.bits() as usize - bits.count as usize {
-            return Err(DefFault::Broken(Rule::G8, Detail::Text(*token)));
-        }
+        let room = width.bits() as usize - bits.count as usize;
+        refuse(text.len() > room, Rule::G8, Detail::Text(*token))?;
         bits = bits.with_digits(text);
     }
     Ok(bits)
@@ -91,14 +90,12 @@ fn check_line(
     ensures broken { (digits source : List ℕ) → bits ≡ bits_of digits → IfErr result (λ fault. DefBroken source fault
         (whole_rows (width_bits width) scope.now choice.now name digits)) }
 {
-    if bits.count != width.bits() {
-        return Err(DefFault::Broken(Rule::G9, Detail::Number(bits.count as u64)));
-    }
-    check_names(scope, choice, name)?;
+    let count = bits.count;
+    let is_short = count != width.bits();
     let left = all_bits(width) ^ (bits.fixed_mask | bits.ignored);
-    if left != 0 {
-        return Err(DefFault::Broken(Rule::G21, Detail::Mask(left)));
-    }
+    refuse(is_short, Rule::G9, Detail::Number(count as u64))?;
+    check_names(scope, choice, name)?;
+    refuse(left != 0, Rule::G21, Detail::Mask(left))?;
     Ok(())
 }
 
@@ -109,22 +106,19 @@ fn check_names(scope: &Scope, choice: &Choice, name: Name) -> Result<(), DefFaul
     ensures broken { (source : List ℕ) → IfErr result (λ fault. DefBroken source fault
         (name_rows scope.now choice.now name)) }
 {
+    let set = choice.set;
+    let is_others = names_other_set(scope.sets(), set, name);
+    let conflicts = has_other_set(scope.formats(), scope.patterns(), set, name);
     if let Some(new) = choice.new_set {
-        if is_set_name_taken(scope, new) {
-            return Err(DefFault::Broken(Rule::G28, Detail::Named(new)));
-        }
+        let is_taken = is_set_name_taken(scope, new);
+        refuse(is_taken, Rule::G28, Detail::Named(new))?;
     }
     if let Some(new) = choice.new_format {
-        if is_format_name_taken(scope.formats(), new) {
-            return Err(DefFault::Broken(Rule::G28, Detail::Named(new)));
-        }
+        let is_taken = is_format_name_taken(scope.formats(), new);
+        refuse(is_taken, Rule::G28, Detail::Named(new))?;
     }
-    if names_other_set(scope.sets(), choice.set, name) {
-        return Err(DefFault::Broken(Rule::G26, Detail::Named(name)));
-    }
-    if has_other_set(scope.formats(), scope.patterns(), choice.set, name) {
-        return Err(DefFault::Broken(Rule::G27, Detail::Named(name)));
-    }
+    refuse(is_others, Rule::G26, Detail::Named(name))?;
+    refuse(conflicts, Rule::G27, Detail::Named(name))?;
     Ok(())
 }
 

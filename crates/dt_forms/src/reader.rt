@@ -28,7 +28,7 @@ use crate::options::Options;
 use crate::pattern_line::add_pattern_line;
 use crate::scope::Scope;
 use crate::source::Source;
-use dt_fields::{DefFault, Detail, Rule};
+use dt_fields::{DefFault, Detail, Rule, refuse};
 use dt_lines::{Logical, Position, Span};
 use std::alloc::{AllocError, Global};
 
@@ -203,10 +203,7 @@ fn check_indentation(indent: u32) -> Result<(), DefFault>
     ensures broken { (source : List ℕ) → IfErr result (λ fault. DefBroken source fault
         (where_broken (not (indent == 0)) (rule.L1, number indent))) }
 {
-    if indent != 0 {
-        return Err(DefFault::Broken(Rule::L1, Detail::Number(indent as u64)));
-    }
-    Ok(())
+    refuse(indent != 0, Rule::L1, Detail::Number(indent as u64))
 }
 
 // Reads a line whose tokens are a first one and the rest.
@@ -258,18 +255,10 @@ fn check_structure(
     ensures broken { IfErr result (λ fault. DefBroken source.now fault (structure_rows scope.now indent
         (text_at source.now first) (map (text_at source.now) rest.now) head)) }
 {
-    if is_not_built(source, rest, head) {
-        return Err(DefFault::Broken(Rule::N2, Detail::None));
-    }
-    if indent != 0 {
-        return Err(DefFault::Broken(Rule::L1, Detail::Number(indent as u64)));
-    }
-    if head == Head::None {
-        return Err(DefFault::Broken(Rule::L7, Detail::Text(first)));
-    }
-    if is_one_too_many(scope, head) {
-        return Err(DefFault::Broken(Rule::L9, Detail::Text(first)));
-    }
+    refuse(is_not_built(source, rest, head), Rule::N2, Detail::None)?;
+    refuse(indent != 0, Rule::L1, Detail::Number(indent as u64))?;
+    refuse(head == Head::None, Rule::L7, Detail::Text(first))?;
+    refuse(is_one_too_many(scope, head), Rule::L9, Detail::Text(first))?;
     Ok(())
 }
 

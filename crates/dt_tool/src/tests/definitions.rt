@@ -74,6 +74,11 @@ fn field_lines_are_refused_by_their_first_rule(rt: HostRuntime) -> Result<(), Fa
             "%f 0:4\n%f 4:4 !function=a",
             "t:2: error: P7 duplicate field: f\n",
         ),
+        ("%f 0:1\n%f 0:31 1:31", "t:2: error: P4 field too large: 62\n"),
+        (
+            "%f 0:1 1:1 2:1 3:1 4:1 5:1 6:1 7:1 8:1 9:1 10:1 11:1 12:1 13:1 14:1 15:1 16:0",
+            "t:1: error: P8 length 0: 16:0\n",
+        ),
         (" %f", "t:1: error: L1 indentation: 1\n"),
         ("% 0:1", "t:1: error: L7 invalid name: %\n"),
         ("%f- 0:1", "t:1: error: L7 invalid name: %f-\n"),
@@ -113,6 +118,10 @@ fn set_lines_are_refused_by_their_first_rule(rt: HostRuntime) -> Result<(), Fail
         (
             "&s a b c d e f g h i j k l m n o p q r s t u v w x y z A B C D E F a",
             "t:1: error: A2 duplicate argument: a\n",
+        ),
+        (
+            "&s a b c d e f g h i j k l m n o p q r s t u v w x y z A B C D E F int",
+            "t:1: error: A4 keyword: int\n",
         ),
         ("&s\n&s", "t:2: error: A3 duplicate set: s\n"),
         ("&s\n&s a a", "t:2: error: A2 duplicate argument: a\n"),
