@@ -74,7 +74,10 @@ fn field_lines_are_refused_by_their_first_rule(rt: HostRuntime) -> Result<(), Fa
             "%f 0:4\n%f 4:4 !function=a",
             "t:2: error: P7 duplicate field: f\n",
         ),
-        ("%f 0:1\n%f 0:31 1:31", "t:2: error: P4 field too large: 62\n"),
+        (
+            "%f 0:1\n%f 0:31 1:31",
+            "t:2: error: P4 field too large: 62\n",
+        ),
         (
             "%f 0:1 1:1 2:1 3:1 4:1 5:1 6:1 7:1 8:1 9:1 10:1 11:1 12:1 13:1 14:1 15:1 16:0",
             "t:1: error: P8 length 0: 16:0\n",
