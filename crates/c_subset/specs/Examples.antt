@@ -13,7 +13,7 @@ nop_program = record {
   sets = record { name = codes "decode0"; members = []; outside = false } ∷ [];
   prefix = Some (record { name = codes "trans"; is_static = true });
   patterns = record { name = codes "nop"; set = codes "decode0" } ∷ [];
-  extracts = record { format = codes "decode_Fmt_0"; set = codes "decode0" } ∷ [];
+  extracts = record { format = codes "decode_Fmt_0"; set = codes "decode0"; assigns = [] } ∷ [];
   decoder = codes "decode";
   decoder_static = true;
   union_sets = codes "decode0" ∷ [];

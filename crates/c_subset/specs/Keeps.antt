@@ -8,7 +8,8 @@ use Rattle.dt_values.specs.declared.ctype.CType.{CType}
 use Rattle.dt_values.specs.declared.ctype.CType.TheVariants.{Other}
 use Rattle.dt_fields.specs.declared.set.SetDef.{SetDef}
 use Rattle.dt_fields.specs.declared.set.TheConstants.{MOST_ARGUMENTS}
-use Rattle.c_subset.specs.Programs.{Name, Stmt, on_mask, extract, call, Stmts, done, then, Pattern, Extraction, Program}
+use Rattle.c_subset.specs.ExprForms.{AssignmentKeeps, TermKeeps}
+use Rattle.c_subset.specs.Programs.{Name, Stmt, on_mask, extract, assign, call, Stmts, done, then, Pattern, Extraction, Program}
 
 abbrev pub AllDiffer : List Name → Type 0
 AllDiffer names = AllPairs (λ x y. x ≢ y) names
@@ -31,26 +32,29 @@ pub record PatternNamed (p : Pattern) : Type 0 where
   pub name : IsName p.name
   pub set : IsName p.set
 
-pub record ExtractionNamed (e : Extraction) : Type 0 where
+pub record ExtractionKeeps (e : Extraction) : Type 0 where
   pub format : IsName e.format
   pub set : IsName e.set
+  pub assigns : All AssignmentKeeps e.assigns
 
--- the formats, patterns and sets that statements speak of are names
+-- the formats, patterns, sets and arguments that statements speak of are names, and expressions keep their rules
 abbrev mutual
-  pub StmtNamed : Stmt → Type 0
-  StmtNamed (on_mask m v ss) = StmtsNamed ss
-  StmtNamed (extract x s) = IsName x × IsName s
-  StmtNamed (call n s) = IsName n × IsName s
+  pub StmtKeeps : Stmt → Type 0
+  StmtKeeps (on_mask m v ss) = StmtsKeep ss
+  StmtKeeps (extract x s) = IsName x × IsName s
+  StmtKeeps (assign s a e) = IsName s × IsName a × TermKeeps e
+  StmtKeeps (call n s) = IsName n × IsName s
 
-  pub StmtsNamed : Stmts → Type 0
-  StmtsNamed done = Unit {0}
-  StmtsNamed (then s ss) = StmtNamed s × StmtsNamed ss
+  pub StmtsKeep : Stmts → Type 0
+  StmtsKeep done = Unit {0}
+  StmtsKeep (then s ss) = StmtKeeps s × StmtsKeep ss
 
 -- masks and values are below the limit, at any depth
 abbrev mutual
   pub StmtBelow : ℕ → Stmt → Type 0
   StmtBelow limit (on_mask m v ss) = (m < limit) × (v < limit) × StmtsBelow limit ss
   StmtBelow limit (extract x s) = Unit {0}
+  StmtBelow limit (assign s a e) = Unit {0}
   StmtBelow limit (call n s) = Unit {0}
 
   pub StmtsBelow : ℕ → Stmts → Type 0
@@ -62,6 +66,7 @@ abbrev mutual
   pub HasNoCall : Stmt → Type 0
   HasNoCall (on_mask m v ss) = HaveNoCall ss
   HasNoCall (extract x s) = Unit {0}
+  HasNoCall (assign s a e) = Unit {0}
   HasNoCall (call n s) = ⊥
 
   pub HaveNoCall : Stmts → Type 0
@@ -75,12 +80,12 @@ pub record KeepsRules (p : Program) : Type 0 where
   pub prefix_named : IfSome p.prefix (λ prefix. IsName prefix.name)
   pub patterns_named : All PatternNamed p.patterns
   pub patterns_differ : AllDiffer (map (λ q. q.name) p.patterns)
-  pub extracts_named : All ExtractionNamed p.extracts
+  pub extracts_keep : All ExtractionKeeps p.extracts
   pub formats_differ : AllDiffer (map (λ e. e.format) p.extracts)
   pub decoder_named : IsName p.decoder
   pub union_sets_named : All IsName p.union_sets
   pub union_sets_differ : AllDiffer p.union_sets
   pub union_with_patterns : p.patterns ≡ [] → p.union_sets ≡ []
-  pub body_named : StmtsNamed p.body
+  pub body_keeps : StmtsKeep p.body
   pub body_below : StmtsBelow (2 ^ width_bits p.width) p.body
   pub calls_with_patterns : p.patterns ≡ [] → HaveNoCall p.body

@@ -1,6 +1,10 @@
 pub mod Bytes
 pub mod Tokens
 pub mod Lexed
+pub mod Marks
+pub mod Exprs
+pub mod ExprSpelling
+pub mod ExprForms
 pub mod Programs
 pub mod View
 pub mod Keeps

@@ -7,35 +7,10 @@ use Rattle.dt_values.specs.Types.{type_name}
 use Rattle.dt_values.specs.declared.ctype.Member.{Member}
 use Rattle.dt_fields.specs.declared.set.SetDef.{SetDef}
 use Rattle.dt_text.specs.Hexadecimal.{hex}
-use Rattle.c_subset.specs.Tokens.{Token, word, mark, double_equals}
-
--- the single bytes that are spelled: ( ) { } ; , * & .
-abbrev pub open_round : Token
-open_round = mark 40
-
-abbrev pub close_round : Token
-close_round = mark 41
-
-abbrev pub open_brace : Token
-open_brace = mark 123
-
-abbrev pub close_brace : Token
-close_brace = mark 125
-
-abbrev pub semicolon : Token
-semicolon = mark 59
-
-abbrev pub comma : Token
-comma = mark 44
-
-abbrev pub asterisk : Token
-asterisk = mark 42
-
-abbrev pub ampersand : Token
-ampersand = mark 38
-
-abbrev pub dot : Token
-dot = mark 46
+use Rattle.c_subset.specs.Exprs.{Assignment, Term}
+use Rattle.c_subset.specs.ExprSpelling.{assign_spelled, assignment_spelled}
+use Rattle.c_subset.specs.Marks.{open_round, close_round, open_brace, close_brace, semicolon, comma, asterisk, ampersand, dot, arg_, f_}
+use Rattle.c_subset.specs.Tokens.{Token, word, double_equals}
 
 -- the bytes of a name
 abbrev pub Name : Type 0
@@ -46,6 +21,7 @@ mutual
   pub data Stmt : Type 0 where
     on_mask : ℕ → ℕ → Stmts → Stmt
     extract : Name → Name → Stmt
+    assign : Name → Name → Term → Stmt
     call : Name → Name → Stmt
 
   pub data Stmts : Type 0 where
@@ -57,10 +33,11 @@ pub record Pattern : Type 0 where
   pub name : Name
   pub set : Name
 
--- a format that is extracted, and its argument set
+-- a format that is extracted, its argument set, and what its arguments are assigned, in order
 pub record Extraction : Type 0 where
   pub format : Name
   pub set : Name
+  pub assigns : List Assignment
 
 -- what stands before the patterns' names, and whether their prototypes are static
 pub record Prefix : Type 0 where
@@ -90,12 +67,6 @@ abbrev pub word_type : Width → List ℕ
 word_type W16 = codes "uint16_t"
 word_type W32 = codes "uint32_t"
 word_type W64 = codes "uint64_t"
-
-abbrev pub arg_ : Name → Token
-arg_ s = word (codes "arg_" ++ s)
-
-abbrev pub f_ : Name → Token
-f_ s = word (codes "f_" ++ s)
 
 abbrev pub extract_name : Name → Name → Token
 extract_name decoder format = word (decoder ++ codes "_extract_" ++ format)
@@ -133,12 +104,18 @@ pattern_spelled prefix p =
     (word (codes "typedef") ∷ arg_ p.set ∷ arg_ p.name ∷ semicolon ∷ [])
     ++ (static_spelled prefix.is_static ++ prototype_spelled prefix.name p.name)
 
--- static void F_extract_X(DisasContext *ctx, arg_S *a, uintW_t insn) { }
+-- static void F_extract_X(DisasContext *ctx, arg_S *a, uintW_t insn) {
+abbrev pub extract_head_spelled : Width → Name → Name → Name → List Token
+extract_head_spelled w decoder format set =
+    word (codes "static") ∷ word (codes "void") ∷ extract_name decoder format
+    ∷ first_parameter (arg_ set ∷ asterisk ∷ word (codes "a") ∷ comma
+    ∷ word (word_type w) ∷ word (codes "insn") ∷ close_round ∷ open_brace ∷ [])
+
+-- the head, a->ARG = EXPR; for each assignment, and the closing brace
 abbrev pub extract_spelled : Width → Name → Extraction → List Token
 extract_spelled w decoder e =
-    word (codes "static") ∷ word (codes "void") ∷ extract_name decoder e.format
-    ∷ first_parameter (arg_ e.set ∷ asterisk ∷ word (codes "a") ∷ comma
-    ∷ word (word_type w) ∷ word (codes "insn") ∷ close_round ∷ open_brace ∷ close_brace ∷ [])
+    extract_head_spelled w decoder e.format e.set
+    ++ (flat_map (assignment_spelled w) e.assigns ++ close_brace ∷ [])
 
 -- &u.f_S
 abbrev pub live_set : Name → List Token → List Token
@@ -168,6 +145,7 @@ abbrev mutual
   pub stmt_spelled : Width → Name → Name → Stmt → List Token
   stmt_spelled w d p (on_mask m v ss) = if_spelled w m v ++ (stmts_spelled w d p ss ++ close_brace ∷ [])
   stmt_spelled w d p (extract x s) = extract_call_spelled d x s
+  stmt_spelled w d p (assign s a e) = assign_spelled w (Some s) a e
   stmt_spelled w d p (call n s) = call_spelled p n s
 
   pub stmts_spelled : Width → Name → Name → Stmts → List Token

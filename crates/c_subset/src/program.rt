@@ -1,5 +1,6 @@
 //! Programs of the C subset.
 
+use crate::expr::Expr;
 use dt_fields::SetDef;
 use dt_values::{Items, Name, Width};
 
@@ -12,11 +13,15 @@ pub type NameList = Items<Name>;
 /// Patterns in order, each by its name and the name of its argument set.
 pub type PatternList = Items<(Name, Name)>;
 
-/// The extraction of a format: a function that fills an argument set.
-#[derive(Clone, Copy, Debug, PartialEq, Eq)]
+/// Assignments in order: each argument with the expression that it gets.
+pub type AssignList = Items<(Name, Expr)>;
+
+/// The extraction of a format: a function that fills an argument set, by assignments in this order.
+#[derive(Debug, Drop)]
 pub struct Extract {
     pub format: Name,
     pub set: Name,
+    pub assigns: AssignList,
 }
 
 /// Extractions in order.
@@ -29,6 +34,8 @@ pub enum Stmt {
     If(u64, u64, Vec<Stmt>),
     /// `F_extract_FORMAT(ctx, &u.f_SET, insn);`, with F the decoder's name.
     Extract { format: Name, set: Name },
+    /// `u.f_SET.ARG = VALUE;`.
+    Assign { set: Name, arg: Name, value: Expr },
     /// `if (P_PATTERN(ctx, &u.f_SET)) return true;`, with P the prefix.
     Call { pattern: Name, set: Name },
 }

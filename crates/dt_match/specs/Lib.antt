@@ -1,3 +1,5 @@
+pub mod FieldValues
+pub mod Arguments
 pub mod Hosts
 pub mod Trial
 pub mod Examples

@@ -1,0 +1,32 @@
+//! Expressions of the C subset.
+
+use dt_values::Name;
+
+/// Where bits come from.
+#[derive(Clone, Copy, Debug, PartialEq, Eq)]
+pub enum Input {
+    /// The word, `insn`.
+    Insn,
+    /// An argument: `a->ARG` in an extraction, which names no set, and `u.f_SET.ARG` in the decoder.
+    Arg(Option<Name>, Name),
+}
+
+/// An expression. N is 64 where a word has 64 bits, and else 32.
+#[derive(Debug, Drop)]
+pub enum Expr {
+    /// A decimal number.
+    Constant(i64),
+    /// `extractN(FROM, POS, LENGTH)`, or `sextractN` where it is signed.
+    Segment {
+        signed: bool,
+        from: Input,
+        pos: u32,
+        length: u32,
+    },
+    /// `depositN(INTO, POS, LENGTH, PART)`.
+    Deposit(Box<Expr>, u32, u32, Box<Expr>),
+    /// `(intN_t)` before an expression.
+    Cast(Box<Expr>),
+    /// `NAME(ctx, ARGUMENT)`, or `NAME(ctx)`.
+    Function(Name, Option<Box<Expr>>),
+}
