@@ -11,3 +11,4 @@ pub mod NewNames
 pub mod Parts
 pub mod Rows
 pub mod SetLines
+pub mod MaskBounds

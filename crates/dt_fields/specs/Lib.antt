@@ -9,6 +9,7 @@ pub mod Keys
 pub mod Numbers
 pub mod Parts
 pub mod Segments
+pub mod Masks
 pub mod SetLines
 pub mod SetTokens
 pub mod SoundFields

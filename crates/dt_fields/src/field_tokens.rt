@@ -40,8 +40,8 @@ fn segment_token<'a>(place: &'a [u8], length: &'a [u8]) -> FieldToken<'a>
     FieldToken::Bits(place, digits, signed)
 }
 
-// Whether a length has an `s` before it.
-fn is_signed(length: &[u8]) -> bool
+/// Whether a length has an `s` before it.
+pub fn is_signed(length: &[u8]) -> bool
     ensures { result ≡ is_signed length.now }
 {
     match length.first() {
@@ -50,8 +50,8 @@ fn is_signed(length: &[u8]) -> bool
     }
 }
 
-// The digits of a length.
-fn without_sign(length: &[u8]) -> &[u8]
+/// The digits of a length.
+pub fn without_sign(length: &[u8]) -> &[u8]
     ensures { result.now ≡ without_sign length.now }
 {
     if !is_signed(length) {

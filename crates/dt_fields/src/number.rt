@@ -11,11 +11,11 @@ ghost use Rattle.dt_fields.specs.Parts.{parts_at_byte, parts_seen};
 
 use dt_values::Name;
 
-// Where numbers of pattern files are cut off: no rule tells larger ones apart.
-pub(crate) const LARGEST_NUMBER: u64 = 1 << 33;
+/// Where numbers of pattern files are cut off: no rule tells larger ones apart.
+pub const LARGEST_NUMBER: u64 = 1 << 33;
 
-// What stands before and behind the first such byte.
-pub(crate) fn parts_at_byte(text: &[u8], mark: u8) -> Option<(&[u8], &[u8])>
+/// What stands before and behind the first such byte.
+pub fn parts_at_byte(text: &[u8], mark: u8) -> Option<(&[u8], &[u8])>
     ensures { parts_seen result ≡ parts_at_byte mark text.now }
 {
     let at = byte_place(text, mark)?;
@@ -32,8 +32,8 @@ fn byte_place(text: &[u8], mark: u8) -> Option<usize>
     text.iter().position(|byte| *byte == mark)
 }
 
-// Whether the text is decimal digits.
-pub(crate) fn is_number(text: &[u8]) -> bool
+/// Whether the text is decimal digits.
+pub fn is_number(text: &[u8]) -> bool
     ensures { result ≡ is_number text.now }
 {
     !text.is_empty() && has_digits(text)
@@ -45,8 +45,8 @@ fn has_digits(text: &[u8]) -> bool
     text.iter().all(|byte| byte.is_ascii_digit())
 }
 
-// The number of decimal digits, or the largest number where it is more.
-pub(crate) fn number_of(digits: &[u8]) -> u64
+/// The number of decimal digits, or the largest number where it is more.
+pub fn number_of(digits: &[u8]) -> u64
     requires { IsTrue (list_all is_ascii_digit digits.now) }
     ensures { result ≡ min (decimal digits.now) LARGEST_NUMBER }
 {
@@ -67,8 +67,8 @@ fn with_digit(number: u64, digit: u8) -> u64
     more.min(LARGEST_NUMBER)
 }
 
-// The identifier that the text is.
-pub(crate) fn ident(text: &[u8]) -> Option<Name>
+/// The identifier that the text is.
+pub fn ident(text: &[u8]) -> Option<Name>
     ensures { SomeIff result (IsTrue (is_ident text.now)) text.now }
 {
     if !begins_with_letter(text) {
@@ -86,8 +86,8 @@ fn begins_with_letter(text: &[u8]) -> bool
     }
 }
 
-// The C name that the text is.
-pub(crate) fn c_name(text: &[u8]) -> Option<Name>
+/// The C name that the text is.
+pub fn c_name(text: &[u8]) -> Option<Name>
     ensures { MatchOption result (is_c_name text.now ≡ false) (λ name. IsCName text.now × (name ≡ text.now)) }
 {
     if is_keyword(text) {
@@ -134,8 +134,8 @@ const KEYWORDS: [&[u8]; 34] = [
     b"while",
 ];
 
-// Whether the text is a keyword.
-pub(crate) fn is_keyword(text: &[u8]) -> bool
+/// Whether the text is a keyword.
+pub fn is_keyword(text: &[u8]) -> bool
     ensures { result ≡ is_keyword text.now }
 {
     is_one_of(KEYWORDS.as_slice(), text)

@@ -69,8 +69,8 @@ impl Segments {
         Segments { items }
     }
 
-    // No segment.
-    pub(crate) fn new(alloc: Global) -> Segments
+    /// No segment.
+    pub fn new(alloc: Global) -> Segments
         ensures { result ≡ [] }
     {
         Segments {
@@ -78,8 +78,8 @@ impl Segments {
         }
     }
 
-    // Puts a segment last.
-    pub(crate) fn push(&mut self, segment: Segment) -> Result<(), AllocError>
+    /// Puts a segment last.
+    pub fn push(&mut self, segment: Segment) -> Result<(), AllocError>
         ensures pushed { OnOk result (self.new ≡ self.old ++ segment ∷ []) }
         ensures unchanged { OnErr result (self.new ≡ self.old) }
     {

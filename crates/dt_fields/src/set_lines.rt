@@ -144,8 +144,8 @@ fn read_argument(draft: &mut SetDraft, token: Span, member: Member) -> Result<()
     Ok(())
 }
 
-// Whether an argument has this name.
-fn has_member(members: &[Member], name: Name) -> bool
+/// Whether an argument has this name.
+pub fn has_member(members: &[Member], name: Name) -> bool
     ensures { result ≡ has_member members.now name }
 {
     members.iter().any(|member| name == member.name)

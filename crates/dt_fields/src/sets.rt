@@ -2,7 +2,7 @@
 
 ghost use Rattle.std.specs.Prelude.{◌≡◌, ◌++◌, ◌∷◌, [], None, IfOk, OnOk, OnErr, length, slice_get};
 ghost use Rattle.std.specs.Option.{option_copied};
-ghost use Rattle.dt_fields.specs.SetsByName.{set_at};
+ghost use Rattle.dt_fields.specs.SetsByName.{place_of_set, set_at};
 
 use crate::set::SetDef;
 use dt_values::Name;
@@ -59,6 +59,13 @@ impl Sets {
         ensures { option_copied result ≡ set_at self.now name }
     {
         self.map.get(&name)
+    }
+
+    /// The place of the set of this name, from 0.
+    pub fn place(&self, name: Name) -> Option<usize>
+        ensures { result ≡ place_of_set self.now name }
+    {
+        self.map.get_index_of(&name)
     }
 
     /// Puts a set last.

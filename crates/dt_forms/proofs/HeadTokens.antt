@@ -89,3 +89,7 @@ pattern_is_named first n h = (named_pattern first n (by_group (is_group_mark fir
 -- a set's begins with its mark
 pub set_begins : (first n : List ℕ) → head_of first ≡ head.Set n → IsTrue (begins_set (first ∷ []))
 set_begins first n h = set_named first n (by_group (is_group_mark first) first (head.Set n) h (λ x. absurd (cc)))
+
+-- and a field's
+pub field_begins : (first n : List ℕ) → head_of first ≡ head.Field n → IsTrue (begins_field (first ∷ []))
+field_begins first n h = field_named first n (by_group (is_group_mark first) first (head.Field n) h (λ x. absurd (cc)))

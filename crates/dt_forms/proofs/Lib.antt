@@ -1,6 +1,6 @@
 pub mod BinaryNumbers
 pub mod PatternDigits
-pub mod PatternTokens
+pub mod Gathering
 pub mod Faults
 pub mod ReadLines
 pub mod ReadFiles
@@ -12,6 +12,11 @@ pub mod NumberedNames
 pub mod OptionNames
 pub mod Entries
 pub mod Widths
+pub mod Fits
+pub mod SameNames
+pub mod LineValues
+pub mod KeptFieldLines
+pub mod Arguments
 pub mod Unbroken
 pub mod Additions
 pub mod SoundBits

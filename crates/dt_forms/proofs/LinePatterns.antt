@@ -1,7 +1,7 @@
 -- Where the patterns of lines stand.
 use Rattle.std.proofs.Common.{◌≡◌, ℕ, ◌+◌, ◌<◌, ◌≤◌, List, [], ◌∷◌, ◌++◌, length, get_or, map, refl, ap, ◌∙◌, sym, subst, inl, inr, ⊎_elim, arith}
 use Rattle.std.specs.Prelude.{◌⊎◌}
-use Rattle.std.specs.List.{All, AllPairs, concat}
+use Rattle.std.specs.List.{All, AllPairs}
 use Rattle.std.proofs.lemmas.List.Elements.{All-head, All-tail, All-nil, All-push, All-weaker}
 use Rattle.std.proofs.lemmas.List.Quantifiers.{all_pairs_push}
 use Rattle.dt_lines.specs.declared.line.Position.{Position}
@@ -11,7 +11,9 @@ use Rattle.dt_forms.specs.declared.head.Head.TheVariants as head
 use Rattle.dt_forms.specs.declared.options.Options.{Options}
 use Rattle.dt_forms.specs.Bits.{bits_of}
 use Rattle.dt_forms.specs.FileLines.{FileLine, line_position}
+use Rattle.dt_forms.specs.Gathering.{gathered}
 use Rattle.dt_forms.specs.Heads.{head_of}
+use Rattle.dt_values.specs.Widths.{width_bits}
 use Rattle.dt_forms.specs.Inference.{choice_of}
 use Rattle.dt_forms.specs.PatternLines.{pattern_with}
 use Rattle.dt_forms.specs.Positions.{leading_token}
@@ -45,7 +47,9 @@ module _ (options : Options) where
   head_adds scope position first rest (head.Field name) e = inl refl
   head_adds scope position first rest (head.Set name) e = inl refl
   head_adds scope position first rest (head.Pattern name) e = inr (record {
-    pattern = pattern_with position name (choice_of options scope.sets scope.formats).format (bits_of (concat rest));
+    pattern =
+        let g = gathered (width_bits options.width) scope.fields rest in
+        pattern_with position name (choice_of options scope.sets scope.formats g).format (bits_of g.digits);
     added = refl;
     on = record { stands = refl; name = pattern_is_first first name e };
   })

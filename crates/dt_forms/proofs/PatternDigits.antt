@@ -1,8 +1,8 @@
 -- The digits of a pattern, one behind the other and token by token.
-use Rattle.std.proofs.Common.{◌≡◌, ℕ, ◌+◌, List, [], ◌∷◌, ◌++◌, length, refl, ap, sym, ◌∙◌, append_assoc, append-nil, arith, add_assoc}
+use Rattle.std.proofs.Common.{◌≡◌, ℕ, ◌+◌, ◌-◌, ◌*◌, ◌^◌, List, [], ◌∷◌, ◌++◌, length, refl, ap, sym, ◌∙◌, append_assoc, append-nil, arith, add_assoc}
 use Rattle.std.proofs.lemmas.List.{length_push}
 use Rattle.dt_forms.specs.declared.bits.Bits.{Bits}
-use Rattle.dt_forms.specs.Bits.{bits_of, fixed_digit, ignored_digit, number_of, one_digit, with_digit, with_digits}
+use Rattle.dt_forms.specs.Bits.{bits_of, fixed_digit, ignored_digit, number_at_top, number_of, one_digit, with_digit, with_digits}
 use Rattle.dt_forms.proofs.BinaryNumbers.{number-push}
 
 abbrev bits_with : ℕ → ℕ → ℕ → ℕ → Bits
@@ -32,3 +32,10 @@ digits_append bits (x ∷ xs) ys = digits_append (with_digit bits x) xs ys
 pub digits_count : (bits : Bits) (xs : List ℕ) → (with_digits bits xs).count ≡ bits.count + length xs
 digits_count bits [] = omega arith
 digits_count bits (x ∷ xs) = omega (arith, digits_count (with_digit bits x) xs)
+
+-- where there is a digit for each bit of the word, the number at its top is the number
+pub at_top : (width : ℕ) (digit : ℕ → ℕ) (digits : List ℕ) → length digits ≡ width → number_at_top width digit digits ≡ number_of digit digits
+at_top width digit digits long =
+    let none : width - length digits ≡ 0 = omega arith in
+    let one : number_of digit digits * 2 ^ 0 ≡ number_of digit digits = omega arith in
+    ap (λ n. number_of digit digits * 2 ^ n) none ∙ one

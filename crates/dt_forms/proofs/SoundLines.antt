@@ -1,7 +1,7 @@
 -- What lines that break no rule define.
 use Rattle.std.proofs.Common.{◌≡◌, ◌≢◌, ℕ, ◌+◌, ◌^◌, ◌<◌, ◌≤◌, ◌==◌, ◌||◌, Bool, true, false, List, [], ◌∷◌, ◌++◌, length, get_or, map, refl, ap, ◌∙◌, sym, subst, arith}
-use Rattle.std.specs.Prelude.{not, nat_le, is_some, codes, IsTrue}
-use Rattle.std.specs.List.{All, AllPairs, concat, list_any}
+use Rattle.std.specs.Prelude.{not, nat_le, is_some, codes, slice_get, IsTrue}
+use Rattle.std.specs.List.{All, AllPairs, list_any}
 use Rattle.std.proofs.Math.Pow.{pow_mono}
 use Rattle.std.proofs.lemmas.Bool.Decides.{nat_tests}
 use Rattle.std.proofs.lemmas.List.{length_push}
@@ -9,36 +9,41 @@ use Rattle.std.proofs.lemmas.List.Elements.{All-nil, All-push, All-weaker}
 use Rattle.dt_values.specs.Names.{IsName}
 use Rattle.dt_values.specs.Types.{is_text}
 use Rattle.dt_values.specs.Widths.{width_bits}
-use Rattle.dt_values.specs.declared.ctype.Member.{Member}
 use Rattle.dt_lines.specs.declared.line.Position.{Position}
 use Rattle.dt_fields.specs.declared.set.SetDef.{SetDef}
-use Rattle.dt_fields.specs.CNames.{IsCName}
+use Rattle.dt_fields.specs.FieldLines.{line_field}
+use Rattle.dt_fields.specs.declared.field.FieldDef.{FieldDef}
 use Rattle.dt_fields.specs.SetLines.{begins_set, is_taken, line_set, set_line_faults}
 use Rattle.dt_fields.specs.Faults.{Broken, where_broken, nothing, token, number}
 use Rattle.dt_fields.specs.declared.rule.Rule.TheVariants as rule
 use Rattle.dt_fields.specs.SetsByName.{set_at}
-use Rattle.dt_fields.specs.SoundSets.{IsSoundSet, IsSoundType}
+use Rattle.dt_fields.specs.SoundSets.{IsSoundSet}
 use Rattle.dt_forms.specs.declared.bits.Bits.{Bits}
 use Rattle.dt_forms.specs.declared.form.Format.{Format}
 use Rattle.dt_forms.specs.declared.form.Pattern.{Pattern}
 use Rattle.dt_forms.specs.declared.head.Head.{Head}
 use Rattle.dt_forms.specs.declared.head.Head.TheVariants as head
+use Rattle.dt_forms.specs.declared.gather.Gathered.{Gathered}
 use Rattle.dt_forms.specs.declared.infer.Choice.{Choice}
 use Rattle.dt_forms.specs.declared.options.Options.{Options}
 use Rattle.dt_forms.specs.declared.reader.TheConstants.{MOST_PATTERNS}
 use Rattle.dt_forms.specs.Bits.{bits_of, number_of, one_digit}
+use Rattle.dt_forms.specs.ElementRows.{element_faults}
 use Rattle.dt_forms.specs.FileLines.{FileLine, line_position}
+use Rattle.dt_forms.specs.Gathering.{gathered, nothing_given}
 use Rattle.dt_forms.specs.Heads.{head_of}
-use Rattle.dt_forms.specs.Inference.{choice_of, formats_with, matching_format, matching_set, name_where, new_format, new_format_name, new_set, new_set_name, sets_with}
+use Rattle.dt_forms.specs.Inference.{choice_of, formats_with, name_where, new_format, new_format_name, new_set_name, sets_with}
 use Rattle.dt_forms.specs.Options.{IsOptionName}
-use Rattle.dt_forms.specs.PatternLines.{after_pattern, has_other_set, is_format_name_taken, is_set_name_taken, name_rows, new_name_row, pattern_faults, pattern_with, set_number, token_faults, whole_rows}
+use Rattle.dt_forms.specs.PatternLines.{after_pattern, argument_rows, has_other_set, is_format_name_taken, is_set_name_taken, name_rows, new_name_row, pattern_faults, pattern_with, set_number, whole_rows}
 use Rattle.dt_forms.specs.Rules.{after_head, after_line, after_lines, after_tokens, definition_faults, faults_from, faults_in, faults_of_line, head_faults, is_no_head, is_not_built, structure_rows}
 use Rattle.dt_forms.specs.Scope.{Scope, nothing_defined, pattern_names}
 use Rattle.dt_forms.specs.Sound.{AreMasks, HaveOneSet}
-use Rattle.dt_forms.proofs.Additions.{FormatsDiffer, IsFormatChosen, IsSetChosen, IsSoundFormat, IsSoundOf, SetsDiffer, format_chosen, format_kept, names_differ_more, one_set_more, same_set, set_chosen}
+use Rattle.dt_forms.proofs.Additions.{FormatsDiffer, IsFormatChosen, IsSetChosen, IsSoundFormat, IsSoundOf, SetsDiffer, choose_format, choose_set, format_kept, names_differ_more, one_set_more, same_set, set_within}
 use Rattle.dt_forms.proofs.BinaryNumbers.{number_below, one_is_digit}
 use Rattle.dt_forms.proofs.Faults.{none_on}
-use Rattle.dt_forms.proofs.HeadTokens.{pattern_is_first, pattern_is_named, set_begins}
+use Rattle.dt_forms.proofs.HeadTokens.{field_begins, pattern_is_named, set_begins}
+use Rattle.dt_forms.proofs.KeptFieldLines.{line_is_kept}
+use Rattle.dt_forms.proofs.LineValues.{AreGiven, AreKeptFields, IsKeptField, line_given}
 use Rattle.dt_forms.proofs.NumberedNames.{numbered_is_name}
 use Rattle.dt_forms.proofs.SoundBits.{digit_masks}
 use Rattle.dt_fields.proofs.KeptSets.{unbroken_set_is_new, unbroken_set_is_sound}
@@ -49,6 +54,7 @@ use Rattle.dt_forms.proofs.Unbroken.{both_empty, not_broken, same_number, texts_
 pub record IsSoundScope (width limit left : ℕ) (scope : Scope) : Type 0 where
   pub few_sets : length scope.sets + left ≤ limit
   pub few_formats : length scope.formats + left ≤ limit
+  pub fields : AreKeptFields width scope.fields
   pub sets : All IsSoundSet scope.sets
   pub sets_differ : SetsDiffer scope.sets
   pub formats : All (IsSoundFormat width scope.sets) scope.formats
@@ -62,6 +68,7 @@ fewer_left : (width limit left less : ℕ) (scope : Scope) → less ≤ left →
 fewer_left width limit left less scope h k = record {
   few_sets = let few : length scope.sets + left ≤ limit = k.few_sets in omega arith;
   few_formats = let few : length scope.formats + left ≤ limit = k.few_formats in omega arith;
+  fields = k.fields;
   sets = k.sets;
   sets_differ = k.sets_differ;
   formats = k.formats;
@@ -78,6 +85,7 @@ pub nothing_sound : (width limit : ℕ) → IsSoundScope width limit limit nothi
 nothing_sound width limit = record {
   few_sets = omega arith;
   few_formats = omega arith;
+  fields = All-nil (λ (f : List ℕ × FieldDef). IsKeptField width f.1);
   sets = All-nil IsSoundSet;
   sets_differ = none_differ (λ (s t : SetDef). s.name ≢ t.name);
   formats = All-nil (IsSoundFormat width []);
@@ -104,15 +112,6 @@ names_free sets patterns name h k d below e =
 formats_free : (formats : List Format) (name : List ℕ) → is_format_name_taken formats name ≡ false → All (λ f. f.name ≢ name) formats
 formats_free formats name h k d below e =
     texts_differ name (get_or formats k d).name (none_passes (λ (f : Format). is_text name f.name) formats h k d below) (sym e)
-
-empty_set_sound : (name : List ℕ) → IsName name → IsSoundSet (new_set name)
-empty_set_sound name named = record {
-  named = named;
-  few = omega arith;
-  different = none_differ (λ (a b : Member). a.name ≢ b.name);
-  c_names = All-nil (λ (m : Member). IsCName m.name);
-  types = All-nil (λ (m : Member). IsSoundType m.ctype);
-}
 
 some_power : (n : ℕ) → 0 < 2 ^ n
 some_power n =
@@ -145,37 +144,49 @@ module _ (options : Options) (limit : ℕ) (decode : IsOptionName options.decode
       let more = (both_empty (new_name_row (is_format_name_taken scope.formats) choice.new_format) _ rest.1) in
       record { set = rest.0; format = more.0; same = not_broken _ _ (both_empty _ _ more.1).1 }
 
-  set_of_line : (left : ℕ) (scope : Scope) → IsSoundScope (width_bits options.width) limit (left + 1) scope
-      → new_name_row (is_set_name_taken scope) (choice_of options scope.sets scope.formats).new_set ≡ []
-      → IsSetChosen (width_bits options.width) scope.sets (sets_with scope.sets (choice_of options scope.sets scope.formats).new_set) (matching_set scope.sets)
-  set_of_line left scope h free =
-      let is_new : Bool = matching_set scope.sets == length scope.sets in
+  -- what a line gives, and the set and the format that its pattern takes
+  abbrev line_of : Scope → List (List ℕ) → Gathered
+  line_of scope tokens = gathered (width_bits options.width) scope.fields tokens
+
+  abbrev choice_on : Scope → Gathered → Choice
+  choice_on scope g = choice_of options scope.sets scope.formats g
+
+  set_of_line : (left : ℕ) (scope : Scope) (g : Gathered) → IsSoundScope (width_bits options.width) limit (left + 1) scope
+      → AreGiven (width_bits options.width) g.values → argument_rows g.values (slice_get scope.sets (choice_on scope g).set) ≡ []
+      → new_name_row (is_set_name_taken scope) (choice_on scope g).new_set ≡ []
+      → IsSetChosen (width_bits options.width) scope.sets (sets_with scope.sets g.values (choice_on scope g).new_set) (choice_on scope g).set g.values
+  set_of_line left scope g h given rows free =
+      let n : ℕ = (choice_on scope g).set in
+      let is_new : Bool = n == length scope.sets in
       let name : List ℕ = new_set_name options.decode (length scope.sets) in
-      set_chosen (width_bits options.width) scope.sets name is_new refl h.sets h.sets_differ
+      choose_set (width_bits options.width) scope.sets n g.values name is_new (set_within scope.sets g.values g.set) refl given rows h.sets h.sets_differ
       (λ e. (
-        empty_set_sound name (set_name_sound scope.sets (left + 1) h.few_sets),
+        set_name_sound scope.sets (left + 1) h.few_sets,
         names_free scope.sets (pattern_names scope.patterns) name (new_is_free (is_set_name_taken scope) is_new name free e),
       ))
 
-  format_of_line : (left : ℕ) (scope : Scope) (sets : List SetDef) → IsSoundScope (width_bits options.width) limit (left + 1) scope
-      → IsSetChosen (width_bits options.width) scope.sets sets (matching_set scope.sets)
-      → new_name_row (is_format_name_taken scope.formats) (choice_of options scope.sets scope.formats).new_format ≡ []
+  format_of_line : (left : ℕ) (scope : Scope) (g : Gathered) (sets : List SetDef) → IsSoundScope (width_bits options.width) limit (left + 1) scope
+      → AreGiven (width_bits options.width) g.values
+      → IsSetChosen (width_bits options.width) scope.sets sets (choice_on scope g).set g.values
+      → new_name_row (is_format_name_taken scope.formats) (choice_on scope g).new_format ≡ []
       → IsFormatChosen (width_bits options.width) sets scope.formats
-      (formats_with (width_bits options.width) scope.formats (matching_set scope.sets) (choice_of options scope.sets scope.formats).new_format)
-      (matching_set scope.sets) (matching_format (width_bits options.width) (matching_set scope.sets) scope.formats)
-  format_of_line left scope sets h set free =
+      (formats_with (width_bits options.width) scope.formats (choice_on scope g).set g.values (choice_on scope g).new_format)
+      (choice_on scope g).set (choice_on scope g).format
+  format_of_line left scope g sets h given set free =
       let width : ℕ = width_bits options.width in
-      let is_new : Bool = matching_format width (matching_set scope.sets) scope.formats == length scope.formats in
+      let n : ℕ = (choice_on scope g).set in
+      let is_new : Bool = (choice_on scope g).format == length scope.formats in
       let name : List ℕ = new_format_name options.decode (length scope.formats) in
-      format_chosen width sets scope.formats (matching_set scope.sets) name is_new refl
+      choose_format width sets scope.formats n g.values name is_new refl
       (All-weaker (IsSoundFormat width scope.sets) (IsSoundFormat width sets) set.keeps scope.formats h.formats) h.formats_differ
       (λ e. (
         record {
           named = format_name_sound scope.formats (left + 1) h.few_formats;
           masks = no_masks width;
           set = set.number;
-          values = refl;
-          members = set.members;
+          values = given.sound;
+          references = given.references;
+          arguments = set.arguments;
         },
         formats_free scope.formats name (new_is_free (is_format_name_taken scope.formats) is_new name free e),
       ))
@@ -196,30 +207,35 @@ module _ (options : Options) (limit : ℕ) (decode : IsOptionName options.decode
       → IsSoundScope (width_bits options.width) limit left (after_pattern options scope position name tokens)
   pattern_step left scope position name tokens h named room none =
       let width : ℕ = width_bits options.width in
-      let choice : Choice = choice_of options scope.sets scope.formats in
-      let digits : List ℕ = concat tokens in
-      let whole : whole_rows width scope choice name digits ≡ [] = (both_empty (token_faults width 0 tokens) _ none).1 in
-      let long : length digits ≡ width = same_number (length digits) width (not_broken _ _ (both_empty _ _ whole).0) in
-      let names : AreNamesKept scope choice name = names_kept scope choice name (both_empty (name_rows scope choice name) _ (both_empty _ _ whole).1).0 in
-      let sets : List SetDef = sets_with scope.sets choice.new_set in
-      let set : IsSetChosen width scope.sets sets (matching_set scope.sets) = set_of_line left scope h names.set in
-      let formats : List Format = formats_with width scope.formats (matching_set scope.sets) choice.new_format in
-      let format : IsFormatChosen width sets scope.formats formats (matching_set scope.sets) (matching_format width (matching_set scope.sets) scope.formats) = format_of_line left scope sets h set names.format in
+      let g : Gathered = line_of scope tokens in
+      let choice : Choice = choice_on scope g in
+      let digits : List ℕ = g.digits in
+      let rows = both_empty (element_faults width scope nothing_given tokens) (whole_rows width scope choice name g) none in
+      let given : AreGiven width g.values = line_given width scope h.fields tokens rows.0 in
+      let counted = both_empty (where_broken (not (length digits == width)) (rule.G9, number (length digits))) _ rows.1 in
+      let arguments = both_empty (argument_rows g.values (slice_get scope.sets choice.set)) _ counted.1 in
+      let long : length digits ≡ width = same_number (length digits) width (not_broken _ _ counted.0) in
+      let names : AreNamesKept scope choice name = names_kept scope choice name (both_empty (name_rows scope choice name) _ arguments.1).0 in
+      let sets : List SetDef = sets_with scope.sets g.values choice.new_set in
+      let set : IsSetChosen width scope.sets sets choice.set g.values = set_of_line left scope g h given arguments.0 names.set in
+      let formats : List Format = formats_with width scope.formats choice.set g.values choice.new_format in
+      let format : IsFormatChosen width sets scope.formats formats choice.set choice.format = format_of_line left scope g sets h given set names.format in
       let pattern : Pattern = pattern_with position name choice.format (bits_of digits) in
       let count : length (scope.patterns ++ pattern ∷ []) ≡ length scope.patterns + 1 = length_push scope.patterns pattern in
       let more : length scope.patterns + 1 ≤ MOST_PATTERNS = not_full (length scope.patterns) MOST_PATTERNS room in
       record {
         few_sets = let few : length scope.sets + (left + 1) ≤ limit = h.few_sets in let one : length sets ≤ length scope.sets + 1 = set.few in omega arith;
         few_formats = let few : length scope.formats + (left + 1) ≤ limit = h.few_formats in let one : length formats ≤ length scope.formats + 1 = format.few in omega arith;
+        fields = h.fields;
         sets = set.sound;
         sets_differ = set.differ;
         formats = format.sound;
         formats_differ = format.differ;
         patterns = All-push (IsSoundOf width formats) scope.patterns pattern (All-weaker (IsSoundOf width scope.formats) (IsSoundOf width formats) format.keeps scope.patterns h.patterns)
             (pattern_sound formats position name choice.format digits named long format.number);
-        one_set = one_set_more formats scope.patterns pattern (matching_set scope.sets) format.set_of
+        one_set = one_set_more formats scope.patterns pattern choice.set format.set_of
             (λ i j d before below e. format.keeps_set (get_or scope.patterns i d) (h.patterns i d (omega arith)) ∙ h.one_set i j d before below e ∙ sym (format.keeps_set (get_or scope.patterns j d) (h.patterns j d below)))
-            (λ k d below e. format.keeps_set (get_or scope.patterns k d) (h.patterns k d below) ∙ same_set scope.formats scope.patterns (matching_set scope.sets) name names.same k d below e);
+            (λ k d below e. format.keeps_set (get_or scope.patterns k d) (h.patterns k d below) ∙ same_set scope.formats scope.patterns choice.set name names.same k d below e);
         few = omega arith;
       }
 
@@ -232,6 +248,7 @@ module _ (options : Options) (limit : ℕ) (decode : IsOptionName options.decode
       record {
         few_sets = let few : length scope.sets + (left + 1) ≤ limit = h.few_sets in omega arith;
         few_formats = let few : length scope.formats + (left + 1) ≤ limit = h.few_formats in omega arith;
+        fields = h.fields;
         sets = All-push IsSoundSet scope.sets s h.sets (unbroken_set_is_sound scope.sets (pattern_names scope.patterns) tokens begins none);
         sets_differ = names_differ_more scope.sets s h.sets_differ (unbroken_set_is_new scope.sets (pattern_names scope.patterns) tokens begins none);
         formats = All-weaker (IsSoundFormat (width_bits options.width) scope.sets) (IsSoundFormat (width_bits options.width) (scope.sets ++ s ∷ [])) (format_kept (width_bits options.width) scope.sets (s ∷ [])) scope.formats h.formats;
@@ -260,6 +277,9 @@ module _ (options : Options) (limit : ℕ) (decode : IsOptionName options.decode
       record {
         few_sets = less.few_sets;
         few_formats = less.few_formats;
+        fields =
+            All-push (λ (f : List ℕ × FieldDef). IsKeptField (width_bits options.width) f.1) scope.fields (line_field (first ∷ rest)) h.fields
+            (line_is_kept (width_bits options.width) scope.fields (first ∷ rest) (field_begins first name e) (both_empty (structure_rows scope indent first rest (head.Field name)) _ none).1);
         sets = h.sets;
         sets_differ = h.sets_differ;
         formats = h.formats;

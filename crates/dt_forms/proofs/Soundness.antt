@@ -1,10 +1,9 @@
 -- The model of files that break no rule is sound.
-use Rattle.std.proofs.Common.{◌≡◌, ◌≢◌, ℕ, zero, suc, ◌+◌, ◌*◌, ◌^◌, ◌<◌, ◌≤◌, List, [], ◌∷◌, ◌++◌, length, get_or, map, None, refl, ap, ◌∙◌, sym, subst, arith, add-one}
+use Rattle.std.proofs.Common.{◌≡◌, ◌≢◌, ℕ, zero, suc, ◌+◌, ◌*◌, ◌^◌, ◌<◌, ◌≤◌, List, [], ◌∷◌, ◌++◌, length, get_or, map, None, refl, ap, ap₂, ◌∙◌, sym, subst, arith, add-one, append-nil}
 use Rattle.std.specs.Prelude.{IsPermutation}
 use Rattle.std.specs.List.{All, AllPairs}
 use Rattle.std.proofs.lemmas.List.{get_or-map, length-map}
 use Rattle.std.proofs.lemmas.List.Elements.{All-nil, All-cons, All-map, All-same, All-weaker}
-use Rattle.std.proofs.lemmas.List.Sorted.{IsPermutation-refl}
 use Rattle.dt_values.specs.Names.{IsName}
 use Rattle.dt_values.specs.Widths.{width_bits}
 use Rattle.dt_lines.specs.declared.line.Position.{Position}
@@ -24,10 +23,11 @@ use Rattle.dt_forms.specs.Patterns.{FlatPattern, position_of}
 use Rattle.dt_forms.specs.Positions.{first_token_at, leading_token}
 use Rattle.dt_forms.specs.Rules.{faults_from, first_fault, scope_before}
 use Rattle.dt_forms.specs.Scope.{Scope, nothing_defined}
-use Rattle.dt_forms.specs.Sound.{FormatHasMasks, GivesArguments, HasMasks, HaveOneSet, IsBefore, IsEarlier, IsSound, IsSoundPattern, argument_names, depth, given_names, pattern_position, positions_of}
+use Rattle.dt_forms.specs.Sound.{AreSoundValues, FormatHasMasks, GivesArguments, HasMasks, HaveOneSet, IsBefore, IsEarlier, IsSound, IsSoundPattern, ReferToNone, argument_names, depth, given_names, pattern_position, positions_of}
 use Rattle.dt_forms.specs.Trees.{one, items_from, items_of, numbers_of, numbers_from}
 use Rattle.dt_forms.specs.View.{pattern_seen}
 use Rattle.dt_forms.proofs.Additions.{IsSoundFormat, IsSoundOf, members_at, set_at_format}
+use Rattle.dt_forms.proofs.Arguments.{member_names, value_names}
 use Rattle.dt_forms.proofs.Entries.{numbers_of_ones}
 use Rattle.dt_forms.proofs.Faults.{no_first}
 use Rattle.dt_forms.proofs.LineOrder.{HasFirstToken, IsPlaced, all_found, all_rise, files_few, files_placed}
@@ -153,21 +153,21 @@ record AreSoundParts (width : ℕ) (d : Definitions) : Type 0 where
   format_names : AllPairs (λ f g. f.name ≢ g.name) d.formats
   one_set : AllPairs (HaveOneSet d.formats) d.patterns
   values : All (GivesArguments d.sets d.formats) d.patterns
-  format_values : All (λ f. f.values ≡ []) d.formats
+  format_values : All (λ f. AreSoundValues width f.values) d.formats
+  references : All (λ f. ReferToNone f.values) d.formats
   pattern_values : All (λ p. p.values ≡ []) d.patterns
 
--- a pattern gives no value, and its set has no argument
-no_argument : (width : ℕ) (sets : List SetDef) (formats : List Format) (p : Pattern) → All (IsSoundFormat width sets) formats → IsSoundOf width formats p → GivesArguments sets formats p
-no_argument width sets formats p all h =
-    let d : Format = new_format 0 [] 0 in
+-- a pattern's format gives what its set has
+arguments_given : (width : ℕ) (sets : List SetDef) (formats : List Format) (p : Pattern) → All (IsSoundFormat width sets) formats → IsSoundOf width formats p → GivesArguments sets formats p
+arguments_given width sets formats p all h =
+    let d : Format = new_format 0 [] 0 [] in
     let f : Format = get_or formats p.format d in
     let sound : IsSoundFormat width sets f = all p.format d h.format in
-    let values : get_or (map (λ (g : Format). g.values) formats) p.format [] ≡ [] = get_or-map (λ (g : Format). g.values) formats p.format d [] h.format ∙ sound.values in
+    let values : get_or (map (λ (g : Format). g.values) formats) p.format [] ≡ f.values = get_or-map (λ (g : Format). g.values) formats p.format d [] h.format in
     let number : set_at_format formats p.format ≡ f.set = get_or-map (λ (g : Format). g.set) formats p.format d 0 h.format in
-    let members : members_at sets (set_at_format formats p.format) ≡ [] = ap (members_at sets) number ∙ sound.members in
-    let given : given_names formats p ≡ [] = ap (λ vs. map (λ v. v.0) (vs ++ p.values)) values ∙ ap (map (λ v. v.0)) h.values in
-    let arguments : argument_names sets formats p ≡ [] = ap (map (λ m. m.name)) members in
-    subst (λ xs. IsPermutation xs (argument_names sets formats p)) (sym given) (subst (IsPermutation []) (sym arguments) (IsPermutation-refl []))
+    let given : given_names formats p ≡ value_names f.values = ap₂ (λ vs own. value_names (vs ++ own)) values h.values ∙ ap value_names (append-nil f.values) in
+    let arguments : argument_names sets formats p ≡ member_names (members_at sets f.set) = ap (λ n. member_names (members_at sets n)) number in
+    subst (λ xs. IsPermutation xs (argument_names sets formats p)) (sym given) (subst (IsPermutation (value_names f.values)) (sym arguments) sound.arguments)
 
 parts_sound : (options : Options) (texts : List (List ℕ)) → IsOptionName options.decode → length texts ≤ MOST_FILES → AreShort texts → first_fault options texts ≡ None
     → AreSoundParts (width_bits options.width) (definitions_of options texts)
@@ -189,8 +189,9 @@ parts_sound options texts decode few short none =
       formats_named = λ k d below. (sound.formats k d below).named;
       format_names = sound.formats_differ;
       one_set = sound.one_set;
-      values = λ k d below. no_argument width scope.sets scope.formats (get_or scope.patterns k d) sound.formats (sound.patterns k d below);
+      values = λ k d below. arguments_given width scope.sets scope.formats (get_or scope.patterns k d) sound.formats (sound.patterns k d below);
       format_values = λ k d below. (sound.formats k d below).values;
+      references = λ k d below. (sound.formats k d below).references;
       pattern_values = λ k d below. (sound.patterns k d below).values;
     }
 
@@ -222,6 +223,7 @@ sound_model options texts model decode few short none h =
       one_set = parts.one_set;
       values = parts.values;
       format_values = parts.format_values;
+      references = parts.references;
       pattern_values = parts.pattern_values;
       entry_positions = subst (λ (bs : List Position). AllPairs IsEarlier bs) (sym (ap (positions_of model.patterns) ones ∙ positions_of_patterns model.patterns)) (positions_rise model.patterns parts.positions);
     }

@@ -26,10 +26,11 @@ number_of digit (b ∷ bs) = digit b * 2 ^ length bs + number_of digit bs
 abbrev pub number_at_top : ℕ → (ℕ → ℕ) → List ℕ → ℕ
 number_at_top width digit digits = number_of digit digits * 2 ^ (width - length digits)
 
--- the bits of the word that are neither fixed nor ignored
-abbrev pub bits_left : ℕ → List ℕ → ℕ
-bits_left width digits =
-    bit_xor (2 ^ width - 1) (bit_or (number_at_top width fixed_digit digits) (number_at_top width ignored_digit digits))
+-- the bits of the word that are neither fixed nor ignored, nor a field's
+abbrev pub bits_left : ℕ → ℕ → List ℕ → ℕ
+bits_left width fields digits =
+    bit_xor (2 ^ width - 1)
+    (bit_or (bit_or (number_at_top width fixed_digit digits) (number_at_top width ignored_digit digits)) fields)
 
 -- what digits say, all of them
 abbrev pub bits_of : List ℕ → Bits

@@ -1,49 +1,123 @@
 -- The set and the format of a pattern that names none (docs/devel/decodetree.rst, "Patterns"). The names of new ones are this project's.
-use Rattle.std.specs.Prelude.{ℕ, ◌≡◌, ◌==◌, ◌&&◌, Bool, true, false, List, [], ◌∷◌, ◌++◌, length, Option, Some, None, codes}
+use Rattle.std.specs.Prelude.{ℕ, ◌≡◌, ◌==◌, ◌&&◌, Bool, true, false, not, List, [], ◌∷◌, ◌++◌, length, map, Option, Some, None, unwrap_or, codes}
+use Rattle.std.specs.Cmp.Lexicographic.{pointwise}
 use Rattle.std.specs.Fmt.{decimal}
-use Rattle.std.specs.List.{position_or_len}
+use Rattle.std.specs.List.{list_all, list_any, position_or_len}
+use Rattle.dt_values.specs.Types.{is_text}
 use Rattle.dt_values.specs.Widths.{width_bits}
-use Rattle.dt_fields.specs.SetsByName.{set_at}
+use Rattle.dt_values.specs.declared.ctype.CType.{CType}
+use Rattle.dt_values.specs.declared.ctype.CType.TheVariants as c
+use Rattle.dt_values.specs.declared.ctype.Member.{Member}
+use Rattle.dt_fields.specs.SetLines.{has_member}
+use Rattle.dt_fields.specs.SetsByName.{place_of_set, set_at}
+use Rattle.dt_fields.specs.declared.field.FieldDef.{FieldDef}
+use Rattle.dt_fields.specs.declared.segment.Segment.{Segment}
+use Rattle.dt_fields.specs.declared.segment.Segment.TheVariants.{Bits, Named}
 use Rattle.dt_fields.specs.declared.set.SetDef.{SetDef}
+use Rattle.dt_forms.specs.ElementRows.{has_value}
+use Rattle.dt_forms.specs.Patterns.{GivenValues}
 use Rattle.dt_forms.specs.declared.form.Format.{Format}
+use Rattle.dt_forms.specs.declared.gather.Gathered.{Gathered}
 use Rattle.dt_forms.specs.declared.infer.Choice.{Choice}
 use Rattle.dt_forms.specs.declared.options.Options.{Options}
+use Rattle.dt_forms.specs.declared.value.FieldValue.{FieldValue}
+use Rattle.dt_forms.specs.declared.value.FieldValue.TheVariants.{Field, Constant}
 
-abbrev pub has_no_argument : SetDef → Bool
-has_no_argument s = length s.members == 0
+abbrev pub is_int : CType → Bool
+is_int c.Int = true
+is_int c.I8 = false
+is_int c.I16 = false
+is_int c.I32 = false
+is_int c.I64 = false
+is_int c.U8 = false
+is_int c.U16 = false
+is_int c.U32 = false
+is_int c.U64 = false
+is_int (c.Other name) = false
 
--- the number of the first set without arguments, or that of a new one
-abbrev pub matching_set : List SetDef → ℕ
-matching_set sets = position_or_len has_no_argument sets
+-- a set has exactly these arguments, in any order, all of type `int`
+abbrev pub has_exactly : GivenValues → SetDef → Bool
+has_exactly values set =
+    list_all (λ m. is_int m.ctype) set.members
+    && (list_all (λ v. has_member set.members v.0) values
+    && list_all (λ m. has_value values m.name) set.members)
 
--- a format of this set, for words of so many bits, that gives no value
-abbrev pub fits_pattern : ℕ → ℕ → Format → Bool
-fits_pattern width set f = (f.set == set) && ((f.bits == width) && (length f.values == 0))
+-- the number of the first such set, or that of a new one
+abbrev pub matching_set : GivenValues → List SetDef → ℕ
+matching_set values sets = position_or_len (has_exactly values) sets
+
+-- the set that a line names, or else one by its arguments
+abbrev pub set_chosen : List SetDef → GivenValues → Option (List ℕ) → ℕ
+set_chosen sets values None = matching_set values sets
+set_chosen sets values (Some name) = unwrap_or (place_of_set sets name) (length sets)
+
+abbrev pub same_sign : Bool → Bool → Bool
+same_sign true signed = signed
+same_sign false signed = not signed
+
+abbrev pub same_segment : Segment → Segment → Bool
+same_segment (Bits pos length signed) (Bits pos2 length2 signed2) =
+    (pos == pos2) && ((length == length2) && same_sign signed signed2)
+same_segment (Bits pos length signed) (Named name2 length2 signed2) = false
+same_segment (Named name length signed) (Bits pos2 length2 signed2) = false
+same_segment (Named name length signed) (Named name2 length2 signed2) =
+    is_text name name2 && ((length == length2) && same_sign signed signed2)
+
+abbrev pub same_function : Option (List ℕ) → Option (List ℕ) → Bool
+same_function None None = true
+same_function None (Some name) = false
+same_function (Some name) None = false
+same_function (Some name) (Some name2) = is_text name name2
+
+abbrev pub same_field : FieldDef → FieldDef → Bool
+same_field f g = pointwise same_segment f.segments g.segments && same_function f.function g.function
+
+-- the same field; a constant is no field
+abbrev pub same_value : FieldValue → FieldValue → Bool
+same_value (Field f) (Field g) = same_field f g
+same_value (Field f) (Constant z) = false
+same_value (Constant z) other = false
+
+-- an argument gets the same field among these
+abbrev pub gives : GivenValues → List ℕ × FieldValue → Bool
+gives values v = list_any (λ w. is_text v.0 w.0 && same_value v.1 w.1) values
+
+-- a format has just these fields, the same by argument and content
+abbrev pub has_fields_of : GivenValues → Format → Bool
+has_fields_of values f = list_all (gives f.values) values && list_all (gives values) f.values
+
+-- A format of this set, for words of so many bits, that gives just these fields, and no constant. The same fields take
+-- the same bits of the word.
+abbrev pub fits_pattern : ℕ → ℕ → GivenValues → Format → Bool
+fits_pattern width set values f = (f.set == set) && ((f.bits == width) && has_fields_of values f)
 
 -- the number of the first such format, or that of a new one
-abbrev pub matching_format : ℕ → ℕ → List Format → ℕ
-matching_format width set formats = position_or_len (fits_pattern width set) formats
+abbrev pub matching_format : ℕ → ℕ → GivenValues → List Format → ℕ
+matching_format width set values formats = position_or_len (fits_pattern width set values) formats
 
--- a new set has the decoder's name and the number of sets before it
+-- a new set has the decoder's name and the number of sets before it, and the arguments of the line
 abbrev pub new_set_name : List ℕ → ℕ → List ℕ
 new_set_name decode count = decode ++ decimal count
 
-abbrev pub new_set : List ℕ → SetDef
-new_set name = record { name = name; members = []; outside = false }
+abbrev pub int_member : List ℕ × FieldValue → Member
+int_member v = record { ctype = c.Int; name = v.0 }
 
--- a new format has the decoder's name, `_Fmt_` and the number of formats before it
+abbrev pub new_set : List ℕ → GivenValues → SetDef
+new_set name values = record { name = name; members = map int_member values; outside = false }
+
+-- a new format has the decoder's name, `_Fmt_` and the number of formats before it, and the fields of the line
 abbrev pub new_format_name : List ℕ → ℕ → List ℕ
 new_format_name decode count = decode ++ (codes "_Fmt_" ++ decimal count)
 
-abbrev pub new_format : ℕ → List ℕ → ℕ → Format
-new_format width name set = record {
+abbrev pub new_format : ℕ → List ℕ → ℕ → GivenValues → Format
+new_format width name set values = record {
   name = name;
   set = set;
   bits = width;
   fixed_bits = 0;
   fixed_mask = 0;
   ignored = 0;
-  values = [];
+  values = values;
 }
 
 abbrev pub name_where : Bool → List ℕ → Option (List ℕ)
@@ -59,19 +133,19 @@ choice_with decode sets formats set format = record {
   new_format = name_where (format == formats) (new_format_name decode formats);
 }
 
-abbrev pub choice_of : Options → List SetDef → List Format → Choice
-choice_of options sets formats =
-    choice_with options.decode (length sets) (length formats) (matching_set sets)
-    (matching_format (width_bits options.width) (matching_set sets) formats)
+abbrev pub choice_of : Options → List SetDef → List Format → Gathered → Choice
+choice_of options sets formats g =
+    choice_with options.decode (length sets) (length formats) (set_chosen sets g.values g.set)
+    (matching_format (width_bits options.width) (set_chosen sets g.values g.set) g.values formats)
 
 -- what new ones add
-abbrev pub sets_with : List SetDef → Option (List ℕ) → List SetDef
-sets_with sets None = sets
-sets_with sets (Some name) = sets ++ new_set name ∷ []
+abbrev pub sets_with : List SetDef → GivenValues → Option (List ℕ) → List SetDef
+sets_with sets values None = sets
+sets_with sets values (Some name) = sets ++ new_set name values ∷ []
 
-abbrev pub formats_with : ℕ → List Format → ℕ → Option (List ℕ) → List Format
-formats_with width formats set None = formats
-formats_with width formats set (Some name) = formats ++ new_format width name set ∷ []
+abbrev pub formats_with : ℕ → List Format → ℕ → GivenValues → Option (List ℕ) → List Format
+formats_with width formats set values None = formats
+formats_with width formats set values (Some name) = formats ++ new_format width name set values ∷ []
 
 -- no set has the name of the new one, if there is one
 abbrev pub IsNewSetFree : List SetDef → Choice → Type 0

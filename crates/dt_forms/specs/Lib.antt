@@ -3,10 +3,15 @@ pub mod FileLines
 pub mod Scope
 pub mod Heads
 pub mod Bits
+pub mod Patterns
+pub mod Fitting
+pub mod Elements
+pub mod ElementView
+pub mod Gathering
+pub mod ElementRows
 pub mod Inference
 pub mod PatternLines
 pub mod Rules
-pub mod Patterns
 pub mod View
 pub mod Trees
 pub mod Models

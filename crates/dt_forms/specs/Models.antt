@@ -6,11 +6,11 @@ use Rattle.dt_forms.specs.declared.form.Format.{Format}
 use Rattle.dt_forms.specs.declared.form.Pattern.{Pattern}
 use Rattle.dt_forms.specs.declared.model.Model.{Model}
 use Rattle.dt_forms.specs.FileLines.{all_lines}
-use Rattle.dt_forms.specs.Patterns.{FlatPattern}
+use Rattle.dt_forms.specs.Patterns.{FlatPattern, TrialPattern}
 use Rattle.dt_forms.specs.Rules.{scope_before}
 use Rattle.dt_forms.specs.Scope.{Scope}
 use Rattle.dt_forms.specs.Trees.{items_of, entries_of}
-use Rattle.dt_forms.specs.View.{pattern_seen}
+use Rattle.dt_forms.specs.View.{pattern_seen, trial_pattern}
 
 -- what a decoder is made of: sets, formats and patterns, each in order of definition
 pub record Definitions : Type 0 where
@@ -32,6 +32,13 @@ definitions_in model = record { sets = model.sets; formats = model.formats; patt
 -- the patterns of files, where no line is broken
 abbrev pub flat_list : Options → List (List ℕ) → List FlatPattern
 flat_list options texts = map pattern_seen (definitions_of options texts).patterns
+
+-- the same patterns as they are tried, with what their arguments get
+abbrev pub trial_patterns : Definitions → List TrialPattern
+trial_patterns d = map (trial_pattern d.sets d.formats) d.patterns
+
+abbrev pub trial_list : Options → List (List ℕ) → List TrialPattern
+trial_list options texts = trial_patterns (definitions_of options texts)
 
 -- a model of what lines define, without groups
 pub record IsModelOfScope (options : Options) (scope : Scope) (model : Model) : Type 0 where

@@ -1,14 +1,16 @@
 -- The rules of pattern lines, and what they define, mostly as scripts/decodetree.py checks them. The order of the rules
 -- is this project's, and so are G26 and G28.
-use Rattle.std.specs.Prelude.{ℕ, ◌+◌, ◌==◌, ◌&&◌, ◌||◌, nat_lt, Bool, false, not, is_some}
+use Rattle.std.specs.Prelude.{ℕ, ◌==◌, ◌&&◌, Bool, false, not, is_some, bit_and, bit_or, if◌then◌else◌}
 use Rattle.std.specs.Prelude.{List, [], ◌∷◌, ◌++◌, length, map, get_or, slice_get, Option, Some, None}
-use Rattle.std.specs.List.{concat, list_any}
+use Rattle.std.specs.List.{list_any}
 use Rattle.dt_values.specs.Types.{is_text}
 use Rattle.dt_values.specs.Widths.{width_bits}
+use Rattle.dt_values.specs.declared.ctype.Member.{Member}
 use Rattle.dt_fields.specs.declared.rule.Rule.TheVariants as rule
 use Rattle.dt_fields.specs.declared.set.SetDef.{SetDef}
-use Rattle.dt_fields.specs.Faults.{Broken, where_broken, token, named, number, mask}
-use Rattle.dt_fields.specs.SetLines.{is_taken}
+use Rattle.dt_fields.specs.Faults.{Broken, where_broken, named, number, mask}
+use Rattle.dt_fields.specs.Masks.{segments_mask}
+use Rattle.dt_fields.specs.SetLines.{has_member, is_taken}
 use Rattle.dt_fields.specs.SetsByName.{set_at}
 use Rattle.dt_lines.specs.declared.line.Position.{Position}
 use Rattle.dt_forms.specs.declared.bits.Bits.{Bits}
@@ -16,19 +18,19 @@ use Rattle.dt_forms.specs.declared.form.Format.{Format}
 use Rattle.dt_forms.specs.declared.form.Pattern.{Pattern}
 use Rattle.dt_forms.specs.declared.infer.Choice.{Choice}
 use Rattle.dt_forms.specs.declared.options.Options.{Options}
-use Rattle.dt_forms.specs.Bits.{bits_left, bits_of}
+use Rattle.dt_forms.specs.declared.gather.Gathered.{Gathered}
+use Rattle.dt_forms.specs.declared.value.FieldValue.{FieldValue}
+use Rattle.dt_forms.specs.declared.value.FieldValue.TheVariants.{Field, Constant}
+use Rattle.dt_forms.specs.Bits.{bits_left, bits_of, fixed_digit, ignored_digit, number_at_top}
+use Rattle.dt_forms.specs.ElementRows.{element_faults, has_value}
+use Rattle.dt_forms.specs.Gathering.{gathered, nothing_given}
 use Rattle.dt_forms.specs.Inference.{choice_of, formats_with, sets_with}
+use Rattle.dt_forms.specs.Patterns.{GivenValues}
 use Rattle.dt_forms.specs.Scope.{Scope, pattern_names}
 
 -- the number of a pattern's set
 abbrev pub set_number : List Format → Pattern → ℕ
 set_number formats p = get_or (map (λ f. f.set) formats) p.format 0
-
--- the rules of the tokens behind a name, behind so many bits
-abbrev pub token_faults : ℕ → ℕ → List (List ℕ) → List Broken
-token_faults width count [] = []
-token_faults width count (t ∷ ts) =
-    where_broken (nat_lt width (count + length t)) (rule.G8, token t) ++ token_faults width (count + length t) ts
 
 -- a set or an earlier pattern has the name
 abbrev pub is_set_name_taken : Scope → List ℕ → Bool
@@ -63,21 +65,65 @@ name_rows scope choice name =
     ++ (where_broken (names_other_set scope.sets choice.set name) (rule.G26, named name)
     ++ where_broken (has_other_set scope.formats scope.patterns choice.set name) (rule.G27, named name)))
 
+-- the first argument that isn't among a set's
+abbrev pub outside_argument : GivenValues → List Member → Option (List ℕ)
+outside_argument [] members = None
+outside_argument (v ∷ vs) members = if has_member members v.0 then outside_argument vs members else Some v.0
+
+-- the first argument of a set that gets nothing
+abbrev pub missing_argument : GivenValues → List Member → Option (List ℕ)
+missing_argument values [] = None
+missing_argument values (m ∷ ms) = if has_value values m.name then missing_argument values ms else Some m.name
+
+abbrev pub where_named : Option (List ℕ) → (List ℕ → Broken) → List Broken
+where_named None b = []
+where_named (Some name) b = b name ∷ []
+
+-- the rules of a line's arguments and those of its set
+abbrev pub member_rows : GivenValues → List Member → List Broken
+member_rows values members =
+    where_named (outside_argument values members) (λ name. (rule.G11, named name))
+    ++ where_named (missing_argument values members) (λ name. (rule.G17, named name))
+
+-- a new set has just the arguments of the line
+abbrev pub argument_rows : GivenValues → Option SetDef → List Broken
+argument_rows values None = []
+argument_rows values (Some set) = member_rows values set.members
+
+-- the bits of the word that fields take
+abbrev pub value_mask : FieldValue → ℕ
+value_mask (Field field) = segments_mask field.segments
+value_mask (Constant z) = 0
+
+abbrev pub values_mask : GivenValues → ℕ
+values_mask [] = 0
+values_mask (v ∷ vs) = bit_or (value_mask v.1) (values_mask vs)
+
+-- the rules of the three masks: no field shares a bit with another mask, and each bit is in one
+abbrev pub mask_rows : ℕ → ℕ → List ℕ → List Broken
+mask_rows width fields digits =
+    where_broken (not (bit_and fields (number_at_top width fixed_digit digits) == 0))
+    (rule.G18, mask (bit_and fields (number_at_top width fixed_digit digits)))
+    ++ (where_broken (not (bit_and fields (number_at_top width ignored_digit digits) == 0))
+    (rule.G19, mask (bit_and fields (number_at_top width ignored_digit digits)))
+    ++ where_broken (not (bits_left width fields digits == 0)) (rule.G21, mask (bits_left width fields digits)))
+
 -- the rules of the whole line, of a pattern with this choice
-abbrev pub whole_rows : ℕ → Scope → Choice → List ℕ → List ℕ → List Broken
-whole_rows width scope choice name digits =
-    where_broken (not (length digits == width)) (rule.G9, number (length digits))
+abbrev pub whole_rows : ℕ → Scope → Choice → List ℕ → Gathered → List Broken
+whole_rows width scope choice name g =
+    where_broken (not (length g.digits == width)) (rule.G9, number (length g.digits))
+    ++ (argument_rows g.values (slice_get scope.sets choice.set)
     ++ (name_rows scope choice name
-    ++ where_broken (not (bits_left width digits == 0)) (rule.G21, mask (bits_left width digits)))
+    ++ mask_rows width (values_mask g.values) g.digits))
 
 -- the rules that the line of a pattern of this name with these further tokens breaks, in order
 abbrev pub pattern_faults : Options → Scope → List ℕ → List (List ℕ) → List Broken
 pattern_faults options scope name tokens =
-    token_faults (width_bits options.width) 0 tokens
-    ++ whole_rows (width_bits options.width) scope (choice_of options scope.sets scope.formats) name
-    (concat tokens)
+    let g = gathered (width_bits options.width) scope.fields tokens in
+    element_faults (width_bits options.width) scope nothing_given tokens
+    ++ whole_rows (width_bits options.width) scope (choice_of options scope.sets scope.formats g) name g
 
--- the pattern of this name, at a position, with these bits
+-- the pattern of this name, at a position, with these bits; its format gives what its arguments get
 abbrev pub pattern_with : Position → List ℕ → ℕ → Bits → Pattern
 pattern_with position name format bits = record {
   name = name;
@@ -91,17 +137,18 @@ pattern_with position name format bits = record {
   values = [];
 }
 
--- what a pattern with this choice adds
-abbrev pub scope_with : ℕ → Scope → Choice → Pattern → Scope
-scope_with width scope choice pattern = record {
+-- what a pattern with this choice, which gives these values, adds
+abbrev pub scope_with : ℕ → Scope → Choice → GivenValues → Pattern → Scope
+scope_with width scope choice values pattern = record {
   fields = scope.fields;
-  sets = sets_with scope.sets choice.new_set;
-  formats = formats_with width scope.formats choice.set choice.new_format;
+  sets = sets_with scope.sets values choice.new_set;
+  formats = formats_with width scope.formats choice.set values choice.new_format;
   patterns = scope.patterns ++ pattern ∷ [];
 }
 
 abbrev pub after_pattern : Options → Scope → Position → List ℕ → List (List ℕ) → Scope
 after_pattern options scope position name tokens =
-    let choice = choice_of options scope.sets scope.formats in
-    scope_with (width_bits options.width) scope choice
-    (pattern_with position name choice.format (bits_of (concat tokens)))
+    let g = gathered (width_bits options.width) scope.fields tokens in
+    let choice = choice_of options scope.sets scope.formats g in
+    scope_with (width_bits options.width) scope choice g.values
+    (pattern_with position name choice.format (bits_of g.digits))

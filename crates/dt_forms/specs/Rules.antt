@@ -2,7 +2,7 @@
 -- project's, and so are N2 and L9.
 use Rattle.std.specs.Prelude.{ℕ, ◌==◌, ◌&&◌, nat_le, Bool, true, false, not}
 use Rattle.std.specs.Prelude.{List, [], ◌∷◌, ◌++◌, length, map, Option, Some, None}
-use Rattle.std.specs.List.{list_all, list_any}
+use Rattle.std.specs.List.{list_any}
 use Rattle.dt_values.specs.Widths.{width_bits}
 use Rattle.dt_lines.specs.Lines.{Line}
 use Rattle.dt_lines.specs.declared.line.Position.{Position}
@@ -14,22 +14,32 @@ use Rattle.dt_forms.specs.declared.head.Head.{Head}
 use Rattle.dt_forms.specs.declared.head.Head.TheVariants as head
 use Rattle.dt_forms.specs.declared.options.Options.{Options}
 use Rattle.dt_forms.specs.declared.reader.TheConstants.{MOST_PATTERNS}
-use Rattle.dt_forms.specs.Bits.{is_bit}
+use Rattle.dt_forms.specs.Elements.{Element, set_named, format_named, constant, field_named, bits, in_place, other, element_of}
 use Rattle.dt_forms.specs.FileLines.{FileLine, all_lines, line_position}
 use Rattle.dt_forms.specs.Heads.{head_of}
 use Rattle.dt_forms.specs.PatternLines.{after_pattern, pattern_faults}
 use Rattle.dt_forms.specs.Scope.{Scope, nothing_defined, pattern_names}
 
-abbrev pub has_other_byte : List ℕ → Bool
-has_other_byte text = not (list_all is_bit text)
+abbrev pub is_later_element : Element → Bool
+is_later_element (set_named name) = false
+is_later_element (format_named name) = true
+is_later_element (constant name) = true
+is_later_element (field_named name field) = false
+is_later_element (bits bs) = false
+is_later_element (in_place name len signed) = false
+is_later_element other = false
 
--- N2: a group's mark or `@` begins the line, or a later token of a pattern line has a byte that stands for no bit
+abbrev pub is_later_form : List ℕ → Bool
+is_later_form text = is_later_element (element_of text)
+
+-- N2: a group's mark or `@` begins the line, or a later token of a pattern line is a format or an argument with a
+-- constant
 abbrev pub is_not_built : List (List ℕ) → Head → Bool
 is_not_built rest head.Group = true
 is_not_built rest head.Format = true
 is_not_built rest (head.Field name) = false
 is_not_built rest (head.Set name) = false
-is_not_built rest (head.Pattern name) = list_any has_other_byte rest
+is_not_built rest (head.Pattern name) = list_any is_later_form rest
 is_not_built rest head.None = false
 
 abbrev pub is_no_head : Head → Bool

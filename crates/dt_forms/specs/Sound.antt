@@ -1,5 +1,5 @@
 -- What holds of every model that is read of pattern files, and of every pattern of their flat list.
-use Rattle.std.specs.Prelude.{◌≡◌, ◌≢◌, ◌+◌, ◌<◌, ◌≤◌, ◌^◌, ◌⊎◌, ℕ, max, bit_and}
+use Rattle.std.specs.Prelude.{◌≡◌, ◌≢◌, ◌+◌, ◌<◌, ◌≤◌, ◌^◌, ◌⊎◌, ℕ, ℤ, pos, negsuc, max, bit_and}
 use Rattle.std.specs.Prelude.{List, [], ◌∷◌, ◌++◌, length, get_or, map, All, AllPairs, IsPermutation}
 use Rattle.dt_values.specs.Names.{IsName}
 use Rattle.dt_values.specs.Widths.{width_bits}
@@ -9,12 +9,17 @@ use Rattle.dt_forms.specs.declared.form.Format.{Format}
 use Rattle.dt_forms.specs.declared.form.Pattern.{Pattern}
 use Rattle.dt_forms.specs.declared.model.Model.{Model}
 use Rattle.dt_forms.specs.declared.reader.TheConstants.{MOST_PATTERNS}
+use Rattle.dt_fields.specs.SoundFields.{IsSoundField}
 use Rattle.dt_fields.specs.SoundSets.{IsSoundSet}
+use Rattle.dt_fields.specs.declared.segment.Segment.{Segment}
+use Rattle.dt_fields.specs.declared.segment.Segment.TheVariants.{Bits, Named}
+use Rattle.dt_forms.specs.declared.value.FieldValue.{FieldValue}
+use Rattle.dt_forms.specs.declared.value.FieldValue.TheVariants.{Field, Constant}
 use Rattle.dt_forms.specs.PatternLines.{set_number}
-use Rattle.dt_forms.specs.Patterns.{FlatPattern, position_of}
+use Rattle.dt_forms.specs.Patterns.{FlatPattern, GivenValues, position_of}
 use Rattle.dt_forms.specs.Trees.{Item, one, overlap, exclusive, Cluster, cluster, Items, no_item, item}
 use Rattle.dt_forms.specs.Trees.{items_of, numbers_of, numbers_from}
-use Rattle.dt_forms.specs.View.{pattern_seen}
+use Rattle.dt_forms.specs.View.{given_values, members_of_pattern, pattern_seen}
 
 -- fixed and ignored masks of words of so many bits: they share no bit, and what is fixed lies in its mask
 pub record AreMasks (width fixed_bits fixed_mask ignored : ℕ) : Type 0 where
@@ -74,15 +79,39 @@ abbrev mutual
 
 -- the names of the arguments of a pattern's set
 abbrev pub argument_names : List SetDef → List Format → Pattern → List (List ℕ)
-argument_names sets formats p = map (λ m. m.name) (get_or (map (λ s. s.members) sets) (set_number formats p) [])
+argument_names sets formats p = map (λ m. m.name) (members_of_pattern sets formats p)
 
 -- the names that a pattern gives a value: those of its format, then its own
 abbrev pub given_names : List Format → Pattern → List (List ℕ)
-given_names formats p = map (λ v. v.0) (get_or (map (λ f. f.values) formats) p.format [] ++ p.values)
+given_names formats p = map (λ v. v.0) (given_values formats p)
 
 -- a pattern gives each argument of its set a value, once
 abbrev pub GivesArguments : List SetDef → List Format → Pattern → Type 0
 GivesArguments sets formats p = IsPermutation (given_names formats p) (argument_names sets formats p)
+
+abbrev pub IsInRange : ℤ → Type 0
+IsInRange (pos n) = n < 2 ^ 32
+IsInRange (negsuc n) = n < 2 ^ 31
+
+-- a field whose line breaks no rule, and a constant in its range: from -2^31 to 2^32 - 1
+abbrev pub IsSoundValue : ℕ → FieldValue → Type 0
+IsSoundValue width (Field field) = IsSoundField width field
+IsSoundValue width (Constant z) = IsInRange z
+
+abbrev pub AreSoundValues : ℕ → GivenValues → Type 0
+AreSoundValues width values = All (λ v. IsSoundValue width v.1) values
+
+-- a field that refers to no other argument
+abbrev pub IsOfWord : Segment → Type 0
+IsOfWord (Bits place length signed) = Unit {0}
+IsOfWord (Named name length signed) = ⊥
+
+abbrev pub RefersToNone : FieldValue → Type 0
+RefersToNone (Field field) = All IsOfWord field.segments
+RefersToNone (Constant z) = Unit {0}
+
+abbrev pub ReferToNone : GivenValues → Type 0
+ReferToNone values = All (λ v. RefersToNone v.1) values
 
 -- patterns of one name have one set
 abbrev pub HaveOneSet : List Format → Pattern → Pattern → Type 0
@@ -99,8 +128,7 @@ pub record IsSoundPattern (width : ℕ) (p : FlatPattern) : Type 0 where
   pub file_below : p.file < 2 ^ 16
   pub line_below : p.line < 2 ^ 32
 
--- No format and no pattern gives a value yet, so the rules of fields and constants, and of references between arguments,
--- aren't here.
+-- No field refers to another argument yet, and no pattern has a value of its own.
 pub record IsSound (model : Model) : Type 0 where
   pub masks : All (HasMasks (width_bits model.width)) model.patterns
   pub format_masks : All (FormatHasMasks (width_bits model.width)) model.formats
@@ -119,6 +147,7 @@ pub record IsSound (model : Model) : Type 0 where
   pub format_names : AllPairs (λ f g. f.name ≢ g.name) model.formats
   pub one_set : AllPairs (HaveOneSet model.formats) model.patterns
   pub values : All (GivesArguments model.sets model.formats) model.patterns
-  pub format_values : All (λ f. f.values ≡ []) model.formats
+  pub format_values : All (λ f. AreSoundValues (width_bits model.width) f.values) model.formats
+  pub references : All (λ f. ReferToNone f.values) model.formats
   pub pattern_values : All (λ p. p.values ≡ []) model.patterns
   pub entry_positions : AllPairs IsEarlier (positions_of model.patterns (items_of model.entries))

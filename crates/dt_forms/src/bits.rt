@@ -17,8 +17,17 @@ pub struct Bits {
 }
 
 impl Bits {
-    /// No digit.
-    pub fn new() -> Bits
+    /// What these digits say.
+    #[tactic(auto, using(crate::proofs::PatternDigits::digits_at_start))]
+    pub fn of(digits: &[u8]) -> Bits
+        requires { length digits.now ≤ 64 }
+        ensures { result ≡ bits_of digits.now }
+    {
+        Bits::new().with_digits(digits)
+    }
+
+    // No digit.
+    fn new() -> Bits
         ensures bits { result ≡ bits_of [] }
         ensures below { AreBitsBelow result }
     {
@@ -30,8 +39,8 @@ impl Bits {
         }
     }
 
-    /// These digits behind the others.
-    pub fn with_digits(self, digits: &[u8]) -> Bits
+    // These digits behind the others.
+    fn with_digits(self, digits: &[u8]) -> Bits
         requires room { self.count + length digits.now ≤ 64 }
         requires below { AreBitsBelow self }
         ensures bits { result ≡ with_digits self digits.now }

@@ -2,12 +2,16 @@
 #![tactic(auto)]
 
 mod bits;
+mod digits;
+mod element;
 pub mod entry;
 pub mod fault;
 pub mod form;
+mod gather;
 mod head;
 mod infer;
 pub mod laws;
+mod line_rules;
 pub mod model;
 pub mod options;
 mod pattern_line;

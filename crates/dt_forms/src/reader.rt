@@ -1,24 +1,24 @@
 //! Reads pattern files.
 
 ghost use Rattle.std.specs.Prelude.{◌≡◌, ◌==◌, ◌<◌, ◌≤◌, ◌∷◌, ℕ, List, [], Option, length, map, not, All, IfErr, IfOk, OnOk, None};
-ghost use Rattle.std.specs.List.{list_all, list_any};
+ghost use Rattle.std.specs.List.{list_any};
 ghost use Rattle.dt_lines.specs.Lines.{logical_lines};
 ghost use Rattle.dt_lines.specs.Spans.{AreSpans, IsWithin, line_seen, text_at};
 ghost use Rattle.dt_fields.specs.Faults.{first, number, where_broken};
 ghost use Rattle.dt_fields.specs.declared.rule.Rule.TheVariants as rule;
 ghost use Rattle.dt_fields.specs.View.{DefBroken};
-ghost use Rattle.dt_forms.specs.Bits.{is_bit};
 ghost use Rattle.dt_forms.specs.FileLines.{all_lines, in_file};
 ghost use Rattle.dt_forms.specs.Heads.{head_of};
 ghost use Rattle.dt_forms.specs.Models.{IsModelOf, IsModelOfScope};
 ghost use Rattle.dt_forms.specs.Options.{IsOptions};
 ghost use Rattle.dt_forms.specs.Rules.{after_head, after_line, after_lines, definition_faults, faults_from, faults_of_line};
-ghost use Rattle.dt_forms.specs.Rules.{first_fault, has_other_byte, head_faults, is_not_built, is_one_too_many, scope_before};
+ghost use Rattle.dt_forms.specs.Rules.{first_fault, head_faults, is_later_form, is_not_built, is_one_too_many, scope_before};
 ghost use Rattle.dt_forms.specs.Rules.{structure_rows};
 ghost use Rattle.dt_forms.specs.Sound.{IsSound};
 ghost use Rattle.dt_forms.specs.Sources.{AreSources, IsSourceAt};
 ghost use Rattle.dt_forms.specs.View.{FileBroken, ModelBroken, fault_at, texts_of};
 
+use crate::element::is_later_form;
 use crate::entry::{EntryList, entries_of};
 use crate::fault::{Fault, ModelFault};
 use crate::form::{FormatList, PatternList};
@@ -270,27 +270,21 @@ fn is_not_built(source: &[u8], rest: &[Span], head: Head) -> bool
     match head {
         Head::Group | Head::Format => true,
         Head::Field(_) | Head::Set(_) | Head::None => false,
-        Head::Pattern(_) => has_other_token(source, rest),
+        Head::Pattern(_) => has_later_form(source, rest),
     }
 }
 
-// Whether a token has a byte that stands for no bit.
-fn has_other_token(source: &[u8], tokens: &[Span]) -> bool
+// Whether a token is of a form that isn't read yet.
+fn has_later_form(source: &[u8], tokens: &[Span]) -> bool
     requires { All (IsWithin (length source.now)) tokens.now }
-    ensures { result ≡ list_any has_other_byte (map (text_at source.now) tokens.now) }
+    ensures { result ≡ list_any is_later_form (map (text_at source.now) tokens.now) }
 {
     for token in tokens {
-        if !has_bits(token.text(source)) {
+        if is_later_form(token.text(source)) {
             return true;
         }
     }
     false
-}
-
-fn has_bits(token: &[u8]) -> bool
-    ensures { result ≡ list_all is_bit token.now }
-{
-    token.iter().all(|byte| *byte == b'0' || *byte == b'1' || *byte == b'.' || *byte == b'-')
 }
 
 // Whether a pattern would be one more than there may be.

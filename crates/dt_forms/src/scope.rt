@@ -1,24 +1,27 @@
 //! What the lines read so far define.
 
-ghost use Rattle.std.specs.Prelude.{◌≡◌, ◌++◌, ◌∷◌, [], ℕ, List, None, Some, length, map, IsTrue, IfErr, IfOk, OnOk};
+ghost use Rattle.std.specs.Prelude.{◌≡◌, ◌++◌, ◌∷◌, [], ℕ, List, None, Some, length, map, IsTrue, IfErr, IfOk, IfSome, OnOk};
+ghost use Rattle.std.specs.Option.{option_copied};
 ghost use Rattle.dt_values.specs.Widths.{width_bits};
 ghost use Rattle.dt_lines.specs.Spans.{AreSpans, text_at};
 ghost use Rattle.dt_fields.specs.Faults.{Broken};
 ghost use Rattle.dt_fields.specs.FieldLines.{begins_field, field_line_faults, line_field};
 ghost use Rattle.dt_fields.specs.SetLines.{begins_set, line_set, set_line_faults};
 ghost use Rattle.dt_fields.specs.SetsByName.{set_at};
+ghost use Rattle.dt_fields.specs.Tables.{entry_at};
 ghost use Rattle.dt_fields.specs.View.{DefBroken};
-ghost use Rattle.dt_forms.specs.Inference.{IsNewSetFree, formats_with, sets_with};
+ghost use Rattle.dt_forms.specs.Fitting.{FieldFits};
+ghost use Rattle.dt_forms.specs.Inference.{IsNewSetFree, formats_with, int_member, sets_with};
 ghost use Rattle.dt_forms.specs.PatternLines.{scope_with};
 ghost use Rattle.dt_forms.specs.Scope.{nothing_defined, pattern_names};
 
 use crate::form::{Format, Pattern};
 use crate::infer::Choice;
 use crate::patterns::Patterns;
-use crate::value::ValueList;
-use dt_fields::{DefFault, Fields, MemberList, SetDef, Sets, args_line, field_line};
+use crate::value::{FieldValue, ValueList};
+use dt_fields::{DefFault, FieldDef, Fields, MemberList, SetDef, Sets, args_line, field_line};
 use dt_lines::Logical;
-use dt_values::{Name, Width};
+use dt_values::{CType, Member, Name, Width};
 use std::alloc::{AllocError, Global};
 use std::marker::Model;
 
@@ -33,11 +36,14 @@ pub struct Scope {
 }
 
 impl Model for Scope {
+    ghost use Rattle.dt_forms.specs.Fitting.{FieldsFit};
     ghost use Rattle.dt_forms.specs.Scope.{Scope as Seen};
 
     ghost Value = { Seen };
 
     ghost view = { λ s. record { fields = s.fields; sets = s.sets; formats = s.formats.items; patterns = s.patterns } };
+
+    ghost invariant = { λ s. FieldsFit s.fields };
 }
 
 impl Scope {
@@ -51,6 +57,14 @@ impl Scope {
             formats: Vec::new(alloc),
             patterns: Patterns::new(alloc),
         }
+    }
+
+    /// The field of this name.
+    pub fn field(&self, name: Name) -> Option<&FieldDef>
+        ensures field { option_copied result ≡ entry_at self.now.fields name }
+        ensures fits { IfSome (option_copied result) FieldFits }
+    {
+        self.fields.get(name)
     }
 
     /// The argument sets.
@@ -117,18 +131,19 @@ impl Scope {
         alloc: Global,
         width: Width,
         choice: &Choice,
+        values: ValueList,
         pattern: Pattern,
     ) -> Result<(), AllocError>
         requires { IsNewSetFree self.old.sets choice.now }
-        ensures { OnOk result (self.new ≡ scope_with (width_bits width) self.old choice.now pattern) }
+        ensures { OnOk result (self.new ≡ scope_with (width_bits width) self.old choice.now values pattern) }
     {
-        push_set(alloc, &mut self.sets, choice.new_set)?;
+        push_set(alloc, &mut self.sets, choice.new_set, values.items())?;
         push_format(
-            alloc,
             &mut self.formats,
             width,
             choice.set,
             choice.new_format,
+            values,
         )?;
         self.patterns.push(pattern)?;
         Ok(())
@@ -147,30 +162,50 @@ impl Scope {
     }
 }
 
-// Puts the set of a new name last, where there is one.
-fn push_set(alloc: Global, sets: &mut Sets, name: Option<Name>) -> Result<(), AllocError>
+// Puts the set of a new name and these arguments last, where there is one.
+fn push_set(
+    alloc: Global,
+    sets: &mut Sets,
+    name: Option<Name>,
+    values: &[(Name, FieldValue)],
+) -> Result<(), AllocError>
     requires { (new : List ℕ) → name ≡ Some new → set_at sets.old new ≡ None }
-    ensures { OnOk result (sets.new ≡ sets_with sets.old name) }
+    ensures { OnOk result (sets.new ≡ sets_with sets.old values.now name) }
 {
-    match name {
-        None => Ok(()),
-        Some(name) => sets.add(SetDef {
-            name,
-            members: MemberList::of(Vec::new(alloc)),
-            outside: false,
-        }),
-    }
+    let Some(name) = name else {
+        return Ok(());
+    };
+    let members = int_members(alloc, values)?;
+    sets.add(SetDef {
+        name,
+        members: MemberList::of(members),
+        outside: false,
+    })
 }
 
-// Puts the format of a new name last, where there is one.
+// Arguments of type `int` with the names of these.
+fn int_members(alloc: Global, values: &[(Name, FieldValue)]) -> Result<Vec<Member>, AllocError>
+    ensures { IfOk result (λ members. members.items ≡ map int_member values.now) }
+{
+    let mut members = Vec::new(alloc);
+    for value in values {
+        members.push(Member {
+            ctype: CType::Int,
+            name: value.0,
+        })?;
+    }
+    Ok(members)
+}
+
+// Puts the format of a new name and these fields last, where there is one.
 fn push_format(
-    alloc: Global,
     formats: &mut Vec<Format>,
     width: Width,
     set: u32,
     name: Option<Name>,
+    values: ValueList,
 ) -> Result<(), AllocError>
-    ensures { OnOk result (formats.new.items ≡ formats_with (width_bits width) formats.old.items set name) }
+    ensures { OnOk result (formats.new.items ≡ formats_with (width_bits width) formats.old.items set values name) }
 {
     if let Some(name) = name {
         formats.push(Format {
@@ -180,7 +215,7 @@ fn push_format(
             fixed_bits: 0,
             fixed_mask: 0,
             ignored: 0,
-            values: ValueList::of(Vec::new(alloc)),
+            values,
         })?;
     }
     Ok(())

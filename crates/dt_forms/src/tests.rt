@@ -1,5 +1,7 @@
 //! Reads small files: the rules of faulty lines, and the models of sound ones.
 
+mod arguments;
+
 ghost use Rattle.std.specs.Prelude.{◌≡◌, ◌+◌, ◌≤◌, length, vec_len, IfOk, OnOk};
 ghost use Rattle.dt_forms.specs.Options.{IsOptions};
 ghost use Rattle.dt_forms.specs.Sources.{AreSources, IsSourceAt};
@@ -148,15 +150,18 @@ fn words_of_32_bits(rt: HostRuntime) -> Result<(), Fail> {
 
 #[test]
 fn lines_that_are_not_built(rt: HostRuntime) -> Result<(), Fail> {
-    let table: [&[u8]; 8] = [
+    let table: [&[u8]; 11] = [
         b"}",
         b"{",
         b"[ 0x",
         b" ]",
         b"@f ----------------",
         b"@",
-        b"p a:16",
-        b" p %f",
+        b" p @f",
+        b"p a=12 *",
+        b"p 9a=-1",
+        b"p if=+0",
+        b"p ---------------- a=0",
     ];
     for bytes in table {
         assert!(rt; is_fault(rt.alloc(), Width::W16, bytes, (1, Rule::N2, Detail::None))?);

@@ -1,7 +1,8 @@
 //! Lists that contracts see by their items.
 
-ghost use Rattle.std.specs.Prelude.{◌≡◌};
+ghost use Rattle.std.specs.Prelude.{◌≡◌, ◌++◌, ◌∷◌, [], OnOk, OnErr};
 
+use std::alloc::AllocError;
 use std::marker::Model;
 
 /// A list of a public type. Contracts see the list of its items.
@@ -34,5 +35,18 @@ impl<T> Items<T> {
         ensures { result.now ≡ self.now }
     {
         self.items.as_slice()
+    }
+}
+
+impl<T: Drop> Items<T> {
+    /// Puts an item last. One that doesn't fit is dropped.
+    pub fn push(&mut self, item: T) -> Result<(), AllocError>
+        ensures pushed { OnOk result (self.new ≡ self.old ++ item ∷ []) }
+        ensures unchanged { OnErr result (self.new ≡ self.old) }
+    {
+        match self.items.push(item) {
+            Ok(()) => Ok(()),
+            Err(_) => Err(AllocError),
+        }
     }
 }

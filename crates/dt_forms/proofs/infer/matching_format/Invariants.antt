@@ -5,4 +5,4 @@ use Rattle.dt_forms.specs.Inference.{fits_pattern}
 use Rattle.dt_forms.proofs.infer.matching_format.Given as goal
 
 abbrev pub invariant-loop-place : goal.invariant-loop-place
-invariant-loop-place l = (d : Format) (k : ℕ) → k < l.place → fits_pattern (width_bits l.width) l.set (get_or l.formats k d) ≡ false
+invariant-loop-place l = (d : Format) (k : ℕ) → k < l.place → fits_pattern (width_bits l.width) l.set l.values (get_or l.formats k d) ≡ false

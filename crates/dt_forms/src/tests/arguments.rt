@@ -1,0 +1,244 @@
+//! Pattern lines with fields, sets and arguments of their own.
+
+use super::{is_fault, model_of, read, text};
+use crate::FieldValue;
+use dt_fields::{Detail, FieldDef, Rule, Segment};
+use dt_lines::LARGEST_FILE;
+use dt_values::{CType, Name, Width};
+use std::test::Fail;
+
+fn named(name: &[u8]) -> Result<Detail, Fail> {
+    Ok(Detail::Named(Name::from_bytes(name).ok_or("a name")?))
+}
+
+#[test]
+fn tokens_are_refused_by_their_first_rule(rt: HostRuntime) -> Result<(), Fail> {
+    let table: [(&[u8], (u32, Rule, Detail)); 27] = [
+        (b"&s a\n&t a\np &s &t", (3, Rule::G1, text(15, 17))),
+        (b"&s a\np &s &t", (2, Rule::G1, text(10, 12))),
+        (b"p &s", (1, Rule::G2, text(2, 4))),
+        (b"p *", (1, Rule::G7, text(2, 3))),
+        (b"p %", (1, Rule::G7, text(2, 3))),
+        (b"p &", (1, Rule::G7, text(2, 3))),
+        (b"p @", (1, Rule::G7, text(2, 3))),
+        (b"p a=", (1, Rule::G7, text(2, 4))),
+        (b"p a=0x1", (1, Rule::G7, text(2, 7))),
+        (b"p a=%", (1, Rule::G7, text(2, 5))),
+        (b"p a:", (1, Rule::G7, text(2, 4))),
+        (b"p a:s", (1, Rule::G7, text(2, 5))),
+        (b"p a:0", (1, Rule::G7, text(2, 5))),
+        (b"p 1a:3", (1, Rule::G7, text(2, 6))),
+        (b"p if:17", (1, Rule::G7, text(2, 7))),
+        (b"p if=%f", (1, Rule::G7, text(2, 7))),
+        (b"p 0x", (1, Rule::G7, text(2, 4))),
+        (b"p %f", (1, Rule::G6, text(2, 4))),
+        (b"p a=%f a=%f", (1, Rule::G6, text(2, 6))),
+        (b"%f 0:1\np a:4 a=%f", (2, Rule::G5, text(13, 17))),
+        (b"p a:4 a:s4", (1, Rule::G5, text(6, 10))),
+        (b"p a:9 b:9", (1, Rule::G8, text(6, 9))),
+        (b"p a:9 a:9", (1, Rule::G8, text(6, 9))),
+        (b"p a:17", (1, Rule::G8, text(2, 6))),
+        (b"p a:18446744073709551617", (1, Rule::G8, text(2, 24))),
+        (b"p a:12 00000", (1, Rule::G8, text(7, 12))),
+        (b"p a:4 *", (1, Rule::G7, text(6, 7))),
+    ];
+    for (bytes, expected) in table {
+        assert!(rt; is_fault(rt.alloc(), Width::W16, bytes, expected)?);
+    }
+    Ok(())
+}
+
+#[test]
+fn lines_are_refused_by_their_first_rule(rt: HostRuntime) -> Result<(), Fail> {
+    let (a, b, p, decode1) = (named(b"a")?, named(b"b")?, named(b"p")?, named(b"decode1")?);
+    let table: [(&[u8], (u32, Rule, Detail)); 18] = [
+        (b"p a:4", (1, Rule::G9, Detail::Number(4))),
+        (b"&s a\np b:8 &s", (2, Rule::G9, Detail::Number(8))),
+        (b"&s a\np b:16 &s", (2, Rule::G11, b)),
+        (b"&s a\np a:8 b:8 &s", (2, Rule::G11, b)),
+        (b"&s a b\np a:16 &s", (2, Rule::G17, b)),
+        (b"&s a b\n&p c\np b:16 &s", (3, Rule::G17, a)),
+        (b"&decode1 x\np a:16", (2, Rule::G28, decode1)),
+        (b"&p a\n&q b\np b:16 &q", (3, Rule::G26, p)),
+        (
+            b"&p a\n&decode2 b\np c:16",
+            (3, Rule::G28, named(b"decode2")?),
+        ),
+        (b"p a:16\np b:16", (2, Rule::G27, p)),
+        (b"p a:16\n%f 0:4\np %f 0000000000000000", (3, Rule::G27, p)),
+        (
+            b"%f 0:4\np %f 0000000000000000",
+            (2, Rule::G18, Detail::Mask(0xf)),
+        ),
+        (
+            b"%f 8:s2 0:4\np %f 0000000000000000",
+            (2, Rule::G18, Detail::Mask(0x30f)),
+        ),
+        (
+            b"%f 0:4\np %f ............00--",
+            (2, Rule::G18, Detail::Mask(0xc)),
+        ),
+        (
+            b"%f 0:4\np %f ----------------",
+            (2, Rule::G19, Detail::Mask(0xf)),
+        ),
+        (
+            b"%f 0:4\np %f ............----",
+            (2, Rule::G19, Detail::Mask(0xf)),
+        ),
+        (
+            b"%f 0:4\np %f 00000000000.....",
+            (2, Rule::G21, Detail::Mask(0x10)),
+        ),
+        (b"&s a\np ---------------- &s", (2, Rule::G17, a)),
+    ];
+    for (bytes, expected) in table {
+        assert!(rt; is_fault(rt.alloc(), Width::W16, bytes, expected)?);
+    }
+    Ok(())
+}
+
+#[test]
+fn a_line_gives_at_most_32_arguments(rt: HostRuntime) -> Result<(), Fail> {
+    let mut bytes = Vec::from_slice(rt.alloc(), b"p")?;
+    for first in [b'a', b'b', b'c', b'd'] {
+        for second in [b'0', b'1', b'2', b'3', b'4', b'5', b'6', b'7'] {
+            bytes.extend_from_slice(&[b' ', first, second, b':', b'2'])?;
+        }
+    }
+    if bytes.len() > LARGEST_FILE {
+        return Err("too long".into());
+    }
+    let model = model_of(read(rt.alloc(), Width::W64, bytes.as_slice())?)?;
+    let set = model.sets.items().first().ok_or("a set")?;
+    assert_eq!(rt; set.members.items().len(), 32);
+    let last = bytes.len() as u32;
+    bytes.extend_from_slice(b" %f")?;
+    let mut file = Vec::from_slice(rt.alloc(), b"%f 0:1\n")?;
+    file.extend_from_slice(bytes.as_slice())?;
+    if file.len() > LARGEST_FILE {
+        return Err("too long".into());
+    }
+    let read = read(rt.alloc(), Width::W64, file.as_slice())?;
+    let fault = super::fault_of(&read)?;
+    assert_eq!(rt;
+        (fault.line, fault.rule, fault.detail),
+        (2, Rule::A5, text(last + 8, last + 10))
+    );
+    Ok(())
+}
+
+// The field that an argument of a format gets.
+fn field_of<'a>(
+    values: &'a [(Name, FieldValue)],
+    place: usize,
+) -> Result<(Name, &'a FieldDef), Fail> {
+    match values.get(place) {
+        Some((name, FieldValue::Field(field))) => Ok((*name, field)),
+        _ => Err("no field".into()),
+    }
+}
+
+#[test]
+fn arguments_get_the_bits_at_their_place(rt: HostRuntime) -> Result<(), Fail> {
+    let file = b"%f 12:s4 0:2 !function=twice\np .... imm:s9 %f 1..";
+    let model = model_of(read(rt.alloc(), Width::W16, file)?)?;
+    let [set] = model.sets.items() else {
+        return Err("a set".into());
+    };
+    let [first, second] = set.members.items() else {
+        return Err("two arguments".into());
+    };
+    assert_eq!(rt; (first.name.as_str(), second.name.as_str()), ("imm", "f"));
+    assert_eq!(rt; (first.ctype, second.ctype), (CType::Int, CType::Int));
+    let [format] = model.formats.items() else {
+        return Err("a format".into());
+    };
+    let (name, imm) = field_of(format.values.items(), 0)?;
+    assert_eq!(rt; name.as_str(), "imm");
+    assert_eq!(rt;
+        imm.segments.items(),
+        [Segment::Bits {
+            pos: 3,
+            length: 9,
+            signed: true
+        }]
+        .as_slice()
+    );
+    assert!(rt; imm.function.is_none());
+    let (name, f) = field_of(format.values.items(), 1)?;
+    assert_eq!(rt; name.as_str(), "f");
+    assert_eq!(rt;
+        f.segments.items(),
+        [
+            Segment::Bits {
+                pos: 12,
+                length: 4,
+                signed: true
+            },
+            Segment::Bits {
+                pos: 0,
+                length: 2,
+                signed: false
+            },
+        ]
+        .as_slice()
+    );
+    assert_eq!(rt; f.function.ok_or("a function")?.as_str(), "twice");
+    let [p] = model.patterns.items() else {
+        return Err("a pattern".into());
+    };
+    assert_eq!(rt; (p.fixed_mask, p.fixed_bits, p.ignored), (4, 4, 0));
+    assert!(rt; p.values.items().is_empty());
+    Ok(())
+}
+
+// How many sets and formats there are, and the numbers of the last pattern's format and set.
+fn choice_of(
+    rt: &HostRuntime,
+    width: Width,
+    file: &[u8],
+) -> Result<(usize, usize, u32, u32), Fail> {
+    if file.len() > 200 {
+        return Err("too long".into());
+    }
+    let model = model_of(read(rt.alloc(), width, file)?)?;
+    let pattern = model.patterns.items().last().ok_or("a pattern")?;
+    let format = model
+        .formats
+        .items()
+        .get(pattern.format as usize)
+        .ok_or("a format")?;
+    Ok((
+        model.sets.items().len(),
+        model.formats.items().len(),
+        pattern.format,
+        format.set,
+    ))
+}
+
+#[test]
+fn sets_and_formats_are_inferred(rt: HostRuntime) -> Result<(), Fail> {
+    let table: [(&[u8], (usize, usize, u32, u32)); 12] = [
+        (b"p a:8 b:8", (1, 1, 0, 0)),
+        (b"&s b a\np a:8 b:8", (1, 1, 0, 0)),
+        (b"&s a\n&t b a\n&u a b\np a:8 b:8", (3, 1, 0, 1)),
+        (b"&s a b\n&t b a\np a:8 b:8 &t", (2, 1, 0, 1)),
+        (b"&s a:int64_t\np a:16", (2, 1, 0, 1)),
+        (b"&s a:int64_t\np a:16 &s", (1, 1, 0, 0)),
+        (b"&s a b\np a:16", (2, 1, 0, 1)),
+        (b"p a:8 b:8\nq a:8 b:8", (1, 1, 0, 0)),
+        (b"p a:8 b:8\nq b:8 a:8", (1, 2, 1, 0)),
+        (b"p a:8 b:8\nq a:s8 b:8", (1, 2, 1, 0)),
+        (
+            b"%f 8:8\n%g 0:8\np %f %g ................\nq %g %f ................",
+            (1, 1, 0, 0),
+        ),
+        (b"&s a\n&t a\np a:16\nq a:16 &t\nr a:16", (2, 2, 0, 0)),
+    ];
+    for (file, expected) in table {
+        assert_eq!(rt; choice_of(&rt, Width::W16, file)?, expected);
+    }
+    assert_eq!(rt; choice_of(&rt, Width::W64, b"p a:s64")?, (1, 1, 0, 0));
+    Ok(())
+}
