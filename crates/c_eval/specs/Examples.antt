@@ -1,10 +1,10 @@
--- Programs whose runs are written out.
+-- Programs without values whose runs are written out.
 use Rattle.std.specs.Prelude.{ℕ, Bool, true, false, List, [], ◌∷◌, codes}
 use Rattle.dt_values.specs.declared.ctype.CType.TheVariants.{Int}
 use Rattle.dt_fields.specs.declared.set.SetDef.{SetDef}
 use Rattle.c_subset.specs.Examples.{nop_program}
 use Rattle.c_subset.specs.Programs.{Name, Stmts, on_mask, extract, call, done, then, Program}
-use Rattle.dt_match.specs.Hosts.{Call, script}
+use Rattle.dt_match.specs.Hosts.{Answer, Call, script}
 use Rattle.c_eval.specs.Runs.{Ended, Run, run_of}
 
 abbrev pub nop_name : Name
@@ -64,13 +64,13 @@ other_extraction = then (extract nop_format other_name) done
 -- its one format has that set
 abbrev pub other_program : Program
 other_program = record nop_program {
-  extracts = record { format = nop_format; set = other_name } ∷ [];
+  extracts = record { format = nop_format; set = other_name; assigns = [] } ∷ [];
   body = other_extraction;
 }
 
--- the run at a word with these outcomes, from the first call on
-abbrev pub scripted_run : Program → List SetDef → List Bool → ℕ → Run ℕ
-scripted_run program outside outcomes word = run_of program outside (script outcomes) word 0
+-- the run at a word with these outcomes and answers, from the first call on
+abbrev pub scripted_run : Program → List SetDef → List Bool → List Answer → ℕ → Run ℕ
+scripted_run program outside outcomes answers word = run_of program outside (script outcomes answers) word 0
 
 abbrev pub run_with : List Call → Ended → ℕ → ℕ → Run ℕ
 run_with calls ended tests state = record { calls = calls; ended = ended; tests = tests; state = state }

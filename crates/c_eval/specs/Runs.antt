@@ -1,5 +1,5 @@
 -- What a program of the C subset does at a word (docs/C_SUBSET.md, "The meaning of a run").
-use Rattle.std.specs.Prelude.{ℕ, ◌+◌, ℤ, ◌==◌, ◌&&◌, bit_and, Bool, true, false, is_some, cond}
+use Rattle.std.specs.Prelude.{ℕ, ◌+◌, ℤ, ◌==◌, ◌&&◌, bit_and, Bool, true, false, cond}
 use Rattle.std.specs.Prelude.{List, [], ◌∷◌, ◌++◌, map, Option, Some, None, option_map, option_and_then}
 use Rattle.std.specs.List.{list_any}
 use Rattle.dt_values.specs.Stored.{stored}

@@ -1,1 +1,4 @@
 pub mod Written
+pub mod Values
+pub mod ExprLayout
+pub mod Examples

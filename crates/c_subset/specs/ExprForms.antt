@@ -1,5 +1,5 @@
 -- The rules that expressions of a program keep (docs/C_SUBSET.md, "Expressions").
-use Rattle.std.specs.Prelude.{◌≡◌, ℕ, suc, ◌<◌, ◌^◌, Bool, true, false, not, IsTrue, List, ℤ, pos, negsuc, Option, Some, None, All}
+use Rattle.std.specs.Prelude.{◌≡◌, ℕ, ◌<◌, ◌^◌, Bool, true, false, not, IsTrue, List, ℤ, pos, negsuc, Option, Some, None}
 use Rattle.dt_values.specs.Names.{IsName}
 use Rattle.c_subset.specs.Exprs.{Source, insn, argument, Term, constant, segment, deposit, cast, function, applied, Assignment}
 

@@ -11,22 +11,23 @@ pub enum Input {
     Arg(Option<Name>, Name),
 }
 
-/// An expression. N is 64 where a word has 64 bits, and else 32.
+/// An expression. N is 64 where a word has 64 bits, and else 32. Which expressions stand in which is `HasForm` of
+/// specs/ExprForms.antt; the type itself allows more.
 #[derive(Debug, Drop)]
 pub enum Expr {
     /// A decimal number.
     Constant(i64),
-    /// `extractN(FROM, POS, LENGTH)`, or `sextractN` where it is signed.
+    /// `extractN(FROM, POS, LENGTH)`, or `sextractN(..)` where it is signed: so many bits of FROM, from POS up.
     Segment {
         signed: bool,
         from: Input,
         pos: u32,
         length: u32,
     },
-    /// `depositN(INTO, POS, LENGTH, PART)`.
+    /// `depositN(INTO, POS, LENGTH, PART)`: INTO with so many bits from POS up replaced by the lowest of PART.
     Deposit(Box<Expr>, u32, u32, Box<Expr>),
-    /// `(intN_t)` before an expression.
+    /// `(intN_t)` before an expression: its bits as a signed number.
     Cast(Box<Expr>),
-    /// `NAME(ctx, ARGUMENT)`, or `NAME(ctx)`.
+    /// `NAME(ctx, ARGUMENT)`, or `NAME(ctx)`: what a function answers.
     Function(Name, Option<Box<Expr>>),
 }

@@ -5,7 +5,7 @@ ghost use Rattle.c_subset.specs.Tokens.{Token, tokens_of};
 ghost use Rattle.c_subset.specs.Lexed.{IsLexed};
 ghost use Rattle.c_subset.specs.Programs.{Program};
 ghost use Rattle.c_subset.specs.Spells.{Spells};
-ghost use Rattle.c_subset.specs.Examples.{Nop, Empty, Arguments, TokenExamples};
+ghost use Rattle.c_subset.specs.Examples.{Nop, Empty, Arguments, Branch, Assigned, TokenExamples};
 
 /// The tokens that are read of a text are those that the lexical rules give it.
 pub fn law_text_is_lexed()
@@ -24,4 +24,6 @@ pub fn examples()
     ensures empty { Empty }
     ensures nop { Nop }
     ensures arguments { Arguments }
+    ensures branch { Branch }
+    ensures assigned { Assigned }
 {}

@@ -6,7 +6,9 @@ pub mod laws;
 pub mod program;
 
 pub use expr::{Expr, Input};
-pub use program::{AssignList, Body, Extract, ExtractList, NameList, PatternList, Program, SetList, Stmt};
+pub use program::{
+    AssignList, Body, Extract, ExtractList, NameList, PatternList, Program, SetList, Stmt,
+};
 
 #[cfg(test)]
 mod tests;

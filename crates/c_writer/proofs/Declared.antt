@@ -1,33 +1,29 @@
--- The program declares each pattern with its set: at the first pattern of its name, which has the same set. And it
--- declares its format with this set, since the format is used.
+-- The program declares each pattern with its set: at the first pattern of its name, which has the same set.
 use Rattle.std.proofs.Common.{◌≡◌, suc, List, [], ◌∷◌, get_or, Bool, true, false, not, ◌&&◌, ◌||◌, refl, sym, ap, ◌∙◌, subst, arith}
 use Rattle.std.specs.Prelude.{map, filter, All, AllPairs}
 use Rattle.std.specs.List.{list_any}
 use Rattle.std.proofs.lemmas.Bool.{and_parts}
 use Rattle.std.proofs.lemmas.List.Elements.{All-nil, All-cons}
-use Rattle.std.proofs.lemmas.List.Folds.{list_any_at}
 use Rattle.std.proofs.lemmas.Map.Views.{any-filter_same}
 use Rattle.std.proofs.lemmas.Slice.Eq.{bytes_eq-Decides}
 use Rattle.dt_values.specs.Types.{is_text}
-use Rattle.c_subset.specs.Programs.{Extraction}
 use Rattle.c_writer.specs.Parts.{NamedPattern}
 use Rattle.c_writer.specs.Prototypes.{has_other_name, first_of_each_name, prototype_of, prototypes}
 use Rattle.c_writer.specs.Sound.{HaveOneSet}
-use Rattle.c_writer.specs.Uses.{is_format_used}
 use Rattle.c_writer.proofs.SetsByName.{text_itself}
 
 -- the name and the set of a pattern are those of another
 abbrev names_both : NamedPattern → NamedPattern → Bool
-names_both r x = is_text r.pattern.name x.pattern.name && is_text r.set x.set
+names_both r x = is_text r.trial.flat.name x.trial.flat.name && is_text r.set x.set
 
 names_itself : (r : NamedPattern) → names_both r r ≡ true
-names_itself r = rw (text_itself r.pattern.name, text_itself r.set) refl
+names_itself r = rw (text_itself r.trial.flat.name, text_itself r.set) refl
 
 -- what names r, another pattern than q by its name, passes where q's name is left out
-passes : (q r x : NamedPattern) → is_text r.pattern.name q.pattern.name ≡ false → names_both r x ≡ true → has_other_name q x ≡ true
+passes : (q r x : NamedPattern) → is_text r.trial.flat.name q.trial.flat.name ≡ false → names_both r x ≡ true → has_other_name q x ≡ true
 passes q r x differs named =
-    let same : r.pattern.name ≡ x.pattern.name = (bytes_eq-Decides r.pattern.name x.pattern.name).0 (and_parts (is_text r.pattern.name x.pattern.name) (is_text r.set x.set) named).0 in
-    ap not (subst (λ n. is_text n q.pattern.name ≡ false) same differs)
+    let same : r.trial.flat.name ≡ x.trial.flat.name = (bytes_eq-Decides r.trial.flat.name x.trial.flat.name).0 (and_parts (is_text r.trial.flat.name x.trial.flat.name) (is_text r.set x.set) named).0 in
+    ap not (subst (λ n. is_text n q.trial.flat.name ≡ false) same differs)
 
 found_first : (a b : Bool) → a ≡ true → (a || b) ≡ true
 found_first true b h = refl
@@ -40,10 +36,10 @@ found_later false b h = h
 abbrev IsFoundIn : List NamedPattern → NamedPattern → Type 0
 IsFoundIn qs r = list_any (names_both r) qs ≡ true
 
-found_at : (q r : NamedPattern) (firsts : List NamedPattern) (same : Bool) → is_text r.pattern.name q.pattern.name ≡ same → HaveOneSet q r → IsFoundIn firsts r
+found_at : (q r : NamedPattern) (firsts : List NamedPattern) (same : Bool) → is_text r.trial.flat.name q.trial.flat.name ≡ same → HaveOneSet q r → IsFoundIn firsts r
     → IsFoundIn (q ∷ filter (has_other_name q) firsts) r
 found_at q r firsts true e one found =
-    let name : r.pattern.name ≡ q.pattern.name = (bytes_eq-Decides r.pattern.name q.pattern.name).0 e in
+    let name : r.trial.flat.name ≡ q.trial.flat.name = (bytes_eq-Decides r.trial.flat.name q.trial.flat.name).0 e in
     let set : is_text r.set q.set ≡ true = (bytes_eq-Decides r.set q.set).1 (sym (one (sym name))) in
     found_first (names_both r q) _ (rw (e, set) refl)
 found_at q r firsts false e one found =
@@ -58,25 +54,9 @@ each_found (q ∷ qs) h =
     let rest : AllPairs HaveOneSet qs = λ i j e below inside. h (suc i) (suc j) e (omega arith) (omega arith) in
     found_at q (get_or qs k d) (first_of_each_name qs) _ refl (h 0 (suc k) d (omega arith) (omega arith)) (each_found qs rest k d within))
 
-any_prototype : (r : NamedPattern) (qs : List NamedPattern) → list_any (λ d. is_text r.pattern.name d.name && is_text r.set d.set) (map prototype_of qs) ≡ list_any (names_both r) qs
+any_prototype : (r : NamedPattern) (qs : List NamedPattern) → list_any (λ d. is_text r.trial.flat.name d.name && is_text r.set d.set) (map prototype_of qs) ≡ list_any (names_both r) qs
 any_prototype r [] = refl
 any_prototype r (q ∷ qs) = ap (λ b. names_both r q || b) (any_prototype r qs)
 
-pub each_declared : (qs : List NamedPattern) → AllPairs HaveOneSet qs → All (λ r. list_any (λ d. is_text r.pattern.name d.name && is_text r.set d.set) (prototypes qs) ≡ true) qs
+pub each_declared : (qs : List NamedPattern) → AllPairs HaveOneSet qs → All (λ r. list_any (λ d. is_text r.trial.flat.name d.name && is_text r.set d.set) (prototypes qs) ≡ true) qs
 each_declared qs h = λ k d within. any_prototype (get_or qs k d) (first_of_each_name qs) ∙ each_found qs h k d within
-
--- the extraction is of the format and the set of a pattern
-abbrev pub names_parts : NamedPattern → Extraction → Bool
-names_parts q e = is_text q.format e.format && is_text q.set e.set
-
-format_passes : (qs : List NamedPattern) (q : NamedPattern) (e : Extraction) → is_format_used qs q.format ≡ true → names_parts q e ≡ true → is_format_used qs e.format ≡ true
-format_passes qs q e used named =
-    let same : q.format ≡ e.format = (bytes_eq-Decides q.format e.format).0 (and_parts (is_text q.format e.format) (is_text q.set e.set) named).0 in
-    subst (λ n. is_format_used qs n ≡ true) same used
-
--- it stays where only those of used formats do
-pub format_declared : (qs : List NamedPattern) (es : List Extraction) → All (λ q. list_any (names_parts q) es ≡ true → list_any (names_parts q) (filter (λ e. is_format_used qs e.format) es) ≡ true) qs
-format_declared qs es k d within there =
-    let q = get_or qs k d in
-    let used : is_format_used qs q.format ≡ true = list_any_at (λ r. is_text q.format r.format) qs k d within (text_itself q.format) in
-    any-filter_same (names_parts q) (λ e. is_format_used qs e.format) true (λ e named. format_passes qs q e used named) es ∙ there

@@ -44,13 +44,13 @@ module _ {X : Type 0} (E : X → X → Bool) (laws : IsEquivalence E) where
 
 -- patterns of one name are one for this
 abbrev same_name : NamedPattern → NamedPattern → Bool
-same_name q r = pointwise nat_eq q.pattern.name r.pattern.name
+same_name q r = pointwise nat_eq q.trial.flat.name r.trial.flat.name
 
 same_name_laws : IsEquivalence same_name
 same_name_laws = record {
-  refl = λ q. nat_list_eq_equiv.refl q.pattern.name;
-  symm = λ q r. nat_list_eq_equiv.symm q.pattern.name r.pattern.name;
-  congr = λ q r s. nat_list_eq_equiv.congr q.pattern.name r.pattern.name s.pattern.name;
+  refl = λ q. nat_list_eq_equiv.refl q.trial.flat.name;
+  symm = λ q r. nat_list_eq_equiv.symm q.trial.flat.name r.trial.flat.name;
+  congr = λ q r s. nat_list_eq_equiv.congr q.trial.flat.name r.trial.flat.name s.trial.flat.name;
 }
 
 -- one pattern more stands last, where none has its name
@@ -61,7 +61,7 @@ firsts_push (r ∷ qs) q =
     ∙ insert_behind same_name same_name_laws q r (first_of_each_name qs) (list_any (same_name q) (first_of_each_name qs)) (same_name q r) refl refl
 
 -- the names of prototypes are those of their patterns
-any_name : (q : NamedPattern) (qs : List NamedPattern) → list_any (pointwise nat_eq q.pattern.name) (map (λ d. d.name) (map prototype_of qs)) ≡ list_any (same_name q) qs
+any_name : (q : NamedPattern) (qs : List NamedPattern) → list_any (pointwise nat_eq q.trial.flat.name) (map (λ d. d.name) (map prototype_of qs)) ≡ list_any (same_name q) qs
 any_name q [] = refl
 any_name q (r ∷ qs) = ap (λ b. same_name q r || b) (any_name q qs)
 
@@ -69,7 +69,7 @@ chosen : {A B : Type 0} (f : A → B) (b : Bool) (x y : A) → f (if b then x el
 chosen f true x y = refl
 chosen f false x y = refl
 
-prototypes_push : (qs : List NamedPattern) (q : NamedPattern) → prototypes (qs ++ q ∷ []) ≡ (if list_any (pointwise nat_eq q.pattern.name) (map (λ d. d.name) (prototypes qs)) then prototypes qs else prototypes qs ++ prototype_of q ∷ [])
+prototypes_push : (qs : List NamedPattern) (q : NamedPattern) → prototypes (qs ++ q ∷ []) ≡ (if list_any (pointwise nat_eq q.trial.flat.name) (map (λ d. d.name) (prototypes qs)) then prototypes qs else prototypes qs ++ prototype_of q ∷ [])
 prototypes_push qs q =
     ap (map prototype_of) (firsts_push qs q)
     ∙ chosen (map prototype_of) (list_any (same_name q) (first_of_each_name qs)) (first_of_each_name qs) (first_of_each_name qs ++ q ∷ [])
@@ -85,9 +85,9 @@ found_push : (names more : List Name) (found all : List Prototype) (p : Prototyp
     → more ≡ insert_key (pointwise nat_eq) names p.name → all ≡ (if list_any (pointwise nat_eq p.name) names then found else found ++ p ∷ [])
     → FoundSoFar more all (qs ++ q ∷ [])
 found_push names more found all p qs q is h inserted pushed =
-    let name : p.name ≡ q.pattern.name = ap (λ (d : Pattern). d.name) is in
-    let some = list_any (pointwise nat_eq q.pattern.name) (map (λ (d : Pattern). d.name) (prototypes qs)) in
-    let asked : list_any (pointwise nat_eq p.name) names ≡ some = ap (λ n. list_any (pointwise nat_eq n) names) name ∙ ap (list_any (pointwise nat_eq q.pattern.name)) h.keys in
+    let name : p.name ≡ q.trial.flat.name = ap (λ (d : Pattern). d.name) is in
+    let some = list_any (pointwise nat_eq q.trial.flat.name) (map (λ (d : Pattern). d.name) (prototypes qs)) in
+    let asked : list_any (pointwise nat_eq p.name) names ≡ some = ap (λ n. list_any (pointwise nat_eq n) names) name ∙ ap (list_any (pointwise nat_eq q.trial.flat.name)) h.keys in
     let next = prototypes_push qs q in
     record {
       keys =

@@ -1,9 +1,13 @@
+pub mod SoundValues
 pub mod Lines
 pub mod FirstNames
+pub mod Giving
 pub mod Choosing
 pub mod Using
 pub mod Rules
 pub mod SetsByName
 pub mod Declared
+pub mod Extracting
+pub mod Filling
 pub mod Chains
 pub mod Models

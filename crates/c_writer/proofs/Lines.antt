@@ -1,5 +1,5 @@
 -- The lines of the text have the tokens of their part of the program.
-use Rattle.std.proofs.Common.{◌≡◌, ℕ, ◌+◌, ◌==◌, List, [], ◌∷◌, ◌++◌, true, false, Bool, Some, refl, arith, map, lit<}
+use Rattle.std.proofs.Common.{◌≡◌, ℕ, ◌+◌, ◌==◌, List, [], ◌∷◌, ◌++◌, true, false, Bool, Some, None, refl, arith, map, lit<}
 use Rattle.std.specs.Prelude.{flat_map, filter, codes}
 use Rattle.std.specs.List.{All}
 use Rattle.std.proofs.lemmas.List.Elements.{All-head, All-tail, All-map, All-weaker, All-filter, All-cons}
@@ -13,15 +13,20 @@ use Rattle.dt_forms.specs.Patterns.{FlatPattern}
 use Rattle.dt_forms.specs.Sound.{IsSoundPattern}
 use Rattle.c_subset.specs.Bytes.{IsWord}
 use Rattle.c_subset.specs.Tokens.{word, mark, read, tokens_of}
+use Rattle.c_subset.specs.Marks as marks
 use Rattle.c_subset.specs.Programs as c
-use Rattle.c_subset.specs.Programs.{Name, Extraction, Prefix, extract, call, Stmts, hex_length, word_type, static_spelled, prototype_spelled, member_spelled, set_spelled, pattern_spelled, extract_spelled, if_spelled, stmt_spelled, stmts_spelled, union_set_spelled, union_spelled, prefix_of, decoder_head_spelled, decoder_end_spelled, decoder_spelled, spelling}
-use Rattle.c_subset.specs.Keeps.{IsTypeKept, SetKeeps, PatternNamed, ExtractionNamed}
+use Rattle.c_subset.specs.Programs.{Name, Extraction, Prefix, extract, call, Stmts, hex_length, word_type, static_spelled, prototype_spelled, member_spelled, set_spelled, pattern_spelled, extract_head_spelled, extract_spelled, if_spelled, stmt_spelled, stmts_spelled, union_set_spelled, union_spelled, prefix_of, decoder_head_spelled, decoder_end_spelled, decoder_spelled, spelling}
+use Rattle.c_subset.specs.Exprs.{Assignment}
+use Rattle.c_subset.specs.ExprForms.{AssignmentKeeps}
+use Rattle.c_subset.specs.ExprSpelling.{assignment_spelled}
+use Rattle.c_subset.specs.Keeps.{IsTypeKept, SetKeeps, PatternNamed, ExtractionKeeps}
 use Rattle.c_subset.proofs.Lexing.{Lexes, line_lexes, lexes_none, lexes_append, lexes_each, tokens_from}
 use Rattle.c_subset.proofs.Seeing.{see}
 use Rattle.c_subset.proofs.Words.{hex_word_is, decimal_word_is, name_is_word, type_name_is_word, underscore, word_type_is}
+use Rattle.c_fields.proofs.Lines as fields
 use Rattle.c_writer.specs.Parts.{NamedPattern, Parts}
 use Rattle.c_writer.specs.Prototypes.{has_other_name, first_of_each_name, prototype_of, prototypes}
-use Rattle.c_writer.specs.Layout.{static_text, head_line, set_head_line, member_line, set_end_line, set_lines, typedef_line, prototype_line, prototype_lines, extraction_lines, empty_line, head_of_decoder, decoder_head_lines, union_head_line, union_set_line, union_end_lines, union_lines, union_where_patterns, comment_line, extract_line, call_line, body_lines, if_line, close_line, test_lines, pattern_lines, end_lines, decoder_lines, layout}
+use Rattle.c_writer.specs.Layout.{static_text, head_line, set_head_line, member_line, set_end_line, set_lines, typedef_line, prototype_line, prototype_lines, extraction_head_line, assignment_line, extraction_lines, empty_line, head_of_decoder, decoder_head_lines, union_head_line, union_set_line, union_end_lines, union_lines, union_where_patterns, comment_line, extract_line, call_line, body_lines, if_line, close_line, test_lines, pattern_lines, end_lines, decoder_lines, layout}
 use Rattle.c_writer.specs.Chain.{test_then, chain, prefix_where_patterns, chain_program}
 use Rattle.c_writer.specs.Sound.{IsSoundIn, AreSound}
 use Rattle.c_writer.specs.Uses.{declared_sets, is_set_used, is_format_used, used_sets, used_extractions}
@@ -43,7 +48,7 @@ head_lexes : Lexes head_line []
 unfolding see read
 head_lexes = line_lexes _ _ (tt, tt) refl
 
-set_head_lexes : Lexes set_head_line (word (codes "typedef") ∷ word (codes "struct") ∷ c.open_brace ∷ [])
+set_head_lexes : Lexes set_head_line (word (codes "typedef") ∷ word (codes "struct") ∷ marks.open_brace ∷ [])
 unfolding see read
 set_head_lexes = line_lexes _ _ (tt, tt) refl
 
@@ -56,7 +61,7 @@ member_lexes : (m : Member) → MemberNamed m → Lexes (member_line m) (member_
 unfolding see read
 member_lexes m h = line_lexes _ _ (tt, (type_name_is_word m.ctype h.type, (tt, (name_is_word m.name h.name, (tt, tt))))) refl
 
-set_end_lexes : (s : Name) → IsName s → Lexes (set_end_line s) (c.close_brace ∷ c.arg_ s ∷ c.semicolon ∷ [])
+set_end_lexes : (s : Name) → IsName s → Lexes (set_end_line s) (marks.close_brace ∷ marks.arg_ s ∷ marks.semicolon ∷ [])
 unfolding see read
 set_end_lexes s h = line_lexes _ _ (tt, (name_is_word s h, (tt, tt))) refl
 
@@ -65,7 +70,7 @@ set_lexes s h =
     let members : All MemberNamed s.members = λ k d below. record { name = h.arguments_named k d below; type = h.types k d below } in
     lexes_append set_head_lexes (lexes_append (lexes_each MemberNamed member_line member_spelled member_lexes s.members members) (set_end_lexes s.name h.named))
 
-typedef_lexes : (p : c.Pattern) → PatternNamed p → Lexes (typedef_line p) (word (codes "typedef") ∷ c.arg_ p.set ∷ c.arg_ p.name ∷ c.semicolon ∷ [])
+typedef_lexes : (p : c.Pattern) → PatternNamed p → Lexes (typedef_line p) (word (codes "typedef") ∷ marks.arg_ p.set ∷ marks.arg_ p.name ∷ marks.semicolon ∷ [])
 unfolding see read
 typedef_lexes p h = line_lexes _ _ (tt, (name_is_word p.set h.set, (tt, (name_is_word p.name h.name, (tt, tt))))) refl
 
@@ -78,23 +83,35 @@ prototype_lexes prefix n h k =
 pattern_lexes : (prefix : Prefix) (p : c.Pattern) → IsName prefix.name → PatternNamed p → Lexes (prototype_lines prefix p) (pattern_spelled prefix p)
 pattern_lexes prefix p h k = lexes_append (typedef_lexes p k) (lexes_append (static_lexes prefix.is_static) (prototype_lexes prefix.name p.name h k.name))
 
-extraction_lexes : (w : Width) (decoder : Name) (e : Extraction) → IsName decoder → ExtractionNamed e → Lexes (extraction_lines w decoder e) (extract_spelled w decoder e)
+close_line_lexes : (level : ℕ) → Lexes (close_line level) (mark 125 ∷ [])
 unfolding see read
+close_line_lexes level = line_lexes _ _ (tt, (tt, tt)) refl
+
+extraction_head_lexes : (w : Width) (decoder format set : Name) → IsName decoder → IsName format → IsName set → Lexes (extraction_head_line w decoder format set) (extract_head_spelled w decoder format set)
+unfolding see read
+extraction_head_lexes w decoder format set h k l =
+    line_lexes _ _ (tt, (name_is_word decoder h, (extract_is_word, (name_is_word format k, (tt, (name_is_word set l, (tt, (word_type_is w, (tt, tt))))))))) refl
+
+assignment_lexes : (w : Width) (a : Assignment) → AssignmentKeeps a → Lexes (assignment_line w a) (assignment_spelled w a)
+assignment_lexes w a k = fields.assignment_lexes w 4 None a.argument a.value k.value.names k.argument
+
+extraction_lexes : (w : Width) (decoder : Name) (e : Extraction) → IsName decoder → ExtractionKeeps e → Lexes (extraction_lines w decoder e) (extract_spelled w decoder e)
 extraction_lexes w decoder e h k =
-    line_lexes _ _ (tt, (name_is_word decoder h, (extract_is_word, (name_is_word e.format k.format, (tt, (name_is_word e.set k.set, (tt, (word_type_is w, (tt, tt))))))))) refl
+    lexes_append (extraction_head_lexes w decoder e.format e.set h k.format k.set)
+    (lexes_append (lexes_each AssignmentKeeps (assignment_line w) (assignment_spelled w) (assignment_lexes w) e.assigns k.assigns) (close_line_lexes 0))
 
 empty_lexes : Lexes empty_line []
 unfolding see read
 empty_lexes = line_lexes _ _ (tt, tt) refl
 
-decoder_lexes : (w : Width) (decoder : Name) → IsName decoder → Lexes (head_of_decoder w decoder) (word (codes "bool") ∷ word decoder ∷ c.first_parameter (word (word_type w) ∷ word (codes "insn") ∷ c.close_round ∷ c.open_brace ∷ []))
+decoder_lexes : (w : Width) (decoder : Name) → IsName decoder → Lexes (head_of_decoder w decoder) (word (codes "bool") ∷ word decoder ∷ c.first_parameter (word (word_type w) ∷ word (codes "insn") ∷ marks.close_round ∷ marks.open_brace ∷ []))
 unfolding see read
 decoder_lexes w decoder h = line_lexes _ _ (tt, (name_is_word decoder h, (tt, (word_type_is w, (tt, tt))))) refl
 
 decoder_head_lexes : (w : Width) (decoder : Name) (is_static : Bool) → IsName decoder → Lexes (decoder_head_lines w decoder is_static) (decoder_head_spelled w decoder is_static)
 decoder_head_lexes w decoder is_static h = lexes_append empty_lexes (lexes_append (static_lexes is_static) (decoder_lexes w decoder h))
 
-union_head_lexes : Lexes union_head_line (word (codes "union") ∷ c.open_brace ∷ [])
+union_head_lexes : Lexes union_head_line (word (codes "union") ∷ marks.open_brace ∷ [])
 unfolding see read
 union_head_lexes = line_lexes _ _ (tt, tt) refl
 
@@ -102,7 +119,7 @@ union_set_lexes : (s : Name) → IsName s → Lexes (union_set_line s) (union_se
 unfolding see read
 union_set_lexes s h = let w = name_is_word s h in line_lexes _ _ (tt, (w, (tt, (w, (tt, tt))))) refl
 
-union_end_lexes : Lexes union_end_lines (c.close_brace ∷ word (codes "u") ∷ c.semicolon ∷ [])
+union_end_lexes : Lexes union_end_lines (marks.close_brace ∷ word (codes "u") ∷ marks.semicolon ∷ [])
 unfolding see read
 union_end_lexes = line_lexes _ _ (tt, tt) refl
 
@@ -127,32 +144,28 @@ if_line_lexes : (w : Width) (level mask value : ℕ) → Lexes (if_line w level 
 unfolding see read
 if_line_lexes w level mask value = line_lexes _ _ (tt, (tt, (hex_of_width w mask, (tt, (hex_of_width w value, (tt, tt)))))) refl
 
-close_line_lexes : (level : ℕ) → Lexes (close_line level) (mark 125 ∷ [])
-unfolding see read
-close_line_lexes level = line_lexes _ _ (tt, (tt, tt)) refl
-
 end_lexes : Lexes end_lines decoder_end_spelled
 unfolding see read
 end_lexes = line_lexes _ _ (tt, tt) refl
 
 body_lexes : (p : Parts) (level : ℕ) (q : NamedPattern) → IsName p.decoder → IsName p.prefix.name → IsSoundIn p q
-    → Lexes (body_lines p level q) (stmt_spelled p.width p.decoder p.prefix.name (extract q.format q.set) ++ stmt_spelled p.width p.decoder p.prefix.name (call q.pattern.name q.set))
+    → Lexes (body_lines p level q) (stmt_spelled p.width p.decoder p.prefix.name (extract q.format q.set) ++ stmt_spelled p.width p.decoder p.prefix.name (call q.trial.flat.name q.set))
 body_lexes p level q h k s =
-    lexes_append (comment_lexes level q.pattern s.pattern)
+    lexes_append (comment_lexes level q.trial.flat s.pattern)
     (lexes_append (extract_line_lexes p.width level p.decoder p.prefix.name q.format q.set h s.format_named s.set_named)
-    (call_line_lexes p.width level p.decoder p.prefix.name q.pattern.name q.set k s.pattern.named s.set_named))
+    (call_line_lexes p.width level p.decoder p.prefix.name q.trial.flat.name q.set k s.pattern.named s.set_named))
 
 -- a test and what follows it
 test_lexes : (b : Bool) (p : Parts) (q : NamedPattern) (rest : Stmts) (bytes : List ℕ) → IsName p.decoder → IsName p.prefix.name → IsSoundIn p q → Lexes bytes (stmts_spelled p.width p.decoder p.prefix.name rest)
     → Lexes (test_lines b p q ++ bytes) (stmts_spelled p.width p.decoder p.prefix.name (test_then b q rest))
 test_lexes true p q rest bytes h k s r = lexes_append (body_lexes p 4 q h k s) r
 test_lexes false p q rest bytes h k s r =
-    lexes_append (lexes_append (if_line_lexes p.width 4 q.pattern.fixed_mask q.pattern.fixed_bits) (lexes_append (body_lexes p 8 q h k s) (close_line_lexes 4))) r
+    lexes_append (lexes_append (if_line_lexes p.width 4 q.trial.flat.fixed_mask q.trial.flat.fixed_bits) (lexes_append (body_lexes p 8 q h k s) (close_line_lexes 4))) r
 
 chain_lexes : (p : Parts) (qs : List NamedPattern) → IsName p.decoder → IsName p.prefix.name → All (IsSoundIn p) qs → Lexes (flat_map (pattern_lines p) qs) (stmts_spelled p.width p.decoder p.prefix.name (chain qs))
 chain_lexes p [] h k s = lexes_none
 chain_lexes p (q ∷ qs) h k s =
-    test_lexes (q.pattern.fixed_mask == 0) p q (chain qs) _ h k (All-head (IsSoundIn p) q qs s) (chain_lexes p qs h k (All-tail (IsSoundIn p) q qs s))
+    test_lexes (q.trial.flat.fixed_mask == 0) p q (chain qs) _ h k (All-head (IsSoundIn p) q qs s) (chain_lexes p qs h k (All-tail (IsSoundIn p) q qs s))
 
 -- the first patterns of names are sound as all are
 pub firsts_have : (P : NamedPattern → Type 0) (qs : List NamedPattern) → All P qs → All P (first_of_each_name qs)
@@ -182,8 +195,8 @@ tests_lex p (q ∷ qs) h k s = chain_lexes p (q ∷ qs) h k s
 pub used_sets_named : (p : Parts) → AreSound p → All IsName (used_sets p)
 used_sets_named p s = All-filter (is_set_used p.patterns) IsName _ (All-map IsName (λ (d : SetDef). d.name) p.sets s.sets_named)
 
-pub used_extractions_named : (p : Parts) → AreSound p → All ExtractionNamed (used_extractions p)
-used_extractions_named p s = All-filter (λ e. is_format_used p.patterns e.format) ExtractionNamed p.extractions s.extractions_named
+pub used_extractions_keep : (p : Parts) → AreSound p → All ExtractionKeeps (used_extractions p)
+used_extractions_keep p s = All-filter (λ e. is_format_used p.patterns e.format) ExtractionKeeps p.extractions s.extractions_keep
 
 decoder_part_lexes : (p : Parts) → AreSound p → Lexes (decoder_lines p) (decoder_spelled (chain_program p))
 decoder_part_lexes p s =
@@ -198,7 +211,7 @@ text_lexes p s =
     lexes_append head_lexes
     (lexes_append (lexes_each SetKeeps set_lines set_spelled set_lexes (declared_sets p.sets) s.sets_keep)
     (lexes_append (prototypes_lex p.prefix p.patterns s.prefix_named (prototypes_named p s))
-    (lexes_append (lexes_each ExtractionNamed (extraction_lines p.width p.decoder) (extract_spelled p.width p.decoder) (λ e h. extraction_lexes p.width p.decoder e s.decoder_named h) (used_extractions p) (used_extractions_named p s))
+    (lexes_append (lexes_each ExtractionKeeps (extraction_lines p.width p.decoder) (extract_spelled p.width p.decoder) (λ e h. extraction_lexes p.width p.decoder e s.decoder_named h) (used_extractions p) (used_extractions_keep p s))
     (decoder_part_lexes p s))))
 
 pub layout_tokens : (p : Parts) → AreSound p → tokens_of (layout p) ≡ Some (spelling (chain_program p))

@@ -1,11 +1,11 @@
 -- The parts of a sound model are sound, and their text decodes its patterns.
-use Rattle.std.proofs.Common.{◌≡◌, ◌≢◌, ℕ, ◌<◌, ◌&&◌, List, [], ◌∷◌, length, get_or, map, Some, Bool, not, true, false, refl, sym, ap, ◌∙◌, subst}
-use Rattle.std.specs.Prelude.{All, AllPairs, IsPermutation, option_map}
+use Rattle.std.proofs.Common.{◌≡◌, ◌≢◌, ℕ, ◌<◌, ◌||◌, List, [], ◌∷◌, ◌++◌, length, get_or, map, Option, Some, None, Bool, not, true, false, cond, refl, sym, ap, ap₂, ◌∙◌, subst, append-nil}
+use Rattle.std.specs.Prelude.{All, AllPairs, IsPermutation, IsSome, option_map}
 use Rattle.std.specs.List.{list_any}
-use Rattle.std.proofs.lemmas.List.{get_or-map, length-map, nil_from_length}
-use Rattle.std.proofs.lemmas.List.Sorted.{length_permutation}
+use Rattle.std.proofs.lemmas.List.{get_or-map, length-map}
+use Rattle.std.proofs.lemmas.List.Sorted.{list_any-IsPermutation}
 use Rattle.std.proofs.lemmas.Bool.{and_parts}
-use Rattle.std.proofs.lemmas.List.Elements.{All-map, All-weaker, All-filter, filter_passes}
+use Rattle.std.proofs.lemmas.List.Elements.{All-cons, All-filter, All-head, All-map, All-nil, All-tail, All-weaker, filter_passes}
 use Rattle.std.proofs.lemmas.List.Folds.{list_any_at}
 use Rattle.dt_values.specs.Names.{is_name, IsName}
 use Rattle.dt_values.specs.Types.{is_text}
@@ -13,6 +13,7 @@ use Rattle.dt_values.specs.Widths.{width_bits}
 use Rattle.dt_values.specs.declared.ctype.CType.{CType}
 use Rattle.dt_values.specs.declared.ctype.CType.TheVariants.{Int, I8, I16, I32, I64, U8, U16, U32, U64, Other}
 use Rattle.dt_values.specs.declared.ctype.Member.{Member}
+use Rattle.dt_values.specs.declared.width.Width.{Width}
 use Rattle.dt_fields.specs.CNames.{begins_with_letter, is_ident, is_keyword, IsCName}
 use Rattle.dt_fields.specs.SoundSets.{IsSoundType, IsSoundSet}
 use Rattle.dt_fields.specs.declared.set.SetDef.{SetDef}
@@ -20,25 +21,36 @@ use Rattle.dt_forms.specs.declared.form.Format.{Format}
 use Rattle.dt_forms.specs.declared.form.Pattern.{Pattern}
 use Rattle.dt_forms.specs.declared.model.Model.{Model}
 use Rattle.dt_forms.specs.declared.options.Options.{Options}
-use Rattle.dt_forms.specs.Models.{definitions_in}
+use Rattle.dt_forms.specs.declared.value.FieldValue.{FieldValue}
+use Rattle.dt_forms.specs.Models.{definitions_in, trial_patterns}
 use Rattle.dt_forms.specs.Options.{IsOptions}
 use Rattle.dt_forms.proofs.OptionNames.{option_named}
-use Rattle.dt_forms.specs.Patterns.{FlatPattern}
+use Rattle.dt_forms.specs.Patterns.{GivenValues, TrialPattern}
 use Rattle.dt_forms.specs.PatternLines.{set_number}
-use Rattle.dt_forms.specs.Sound.{argument_names, given_names, GivesArguments, IsSound, IsSoundPattern}
-use Rattle.dt_forms.specs.View.{pattern_seen}
+use Rattle.dt_forms.specs.Sound.{IsSound, IsSoundPattern, IsSoundValue}
+use Rattle.dt_forms.specs.View.{given_values, members_of_pattern, pattern_seen, trial_pattern}
 use Rattle.c_subset.specs.Programs.{Name, Extraction}
-use Rattle.c_subset.specs.Keeps.{ExtractionNamed, IsTypeKept, SetKeeps}
+use Rattle.c_subset.specs.ExprForms.{AssignmentKeeps}
+use Rattle.c_subset.specs.Keeps.{ExtractionKeeps, IsTypeKept, SetKeeps}
+use Rattle.dt_match.specs.Arguments.{given_in}
 use Rattle.dt_match.specs.Hosts.{script}
-use Rattle.c_writer.specs.Parts.{Parts, set_name, format_name, extraction_of, named_pattern, parts_of, patterns_in}
+use Rattle.c_eval.specs.Meaning.{helper_bits}
+use Rattle.c_eval.specs.Runs.{assigns_in}
+use Rattle.c_fields.specs.Values.{HasRoom}
+use Rattle.c_fields.specs.Written.{assignment_of}
+use Rattle.c_writer.specs.Parts.{Parts, set_name, set_members, format_name, assignments_of, extraction_of, named_pattern, parts_of, patterns_in}
 use Rattle.c_writer.specs.Chain.{chain_program}
 use Rattle.c_writer.specs.Decoders.{IsDecoder}
 use Rattle.c_writer.specs.Layout.{layout}
 use Rattle.dt_fields.specs.SetsByName.{set_at}
-use Rattle.c_writer.specs.Sound.{HasNoArguments, IsSoundIn, HaveOneSet, AreSound}
+use Rattle.c_writer.specs.Sound.{IsSoundIn, HaveOneSet, AreSound}
+use Rattle.c_writer.specs.SetOrder.{given_before, in_set_order}
 use Rattle.c_writer.specs.Uses.{declared_sets, outside_sets}
-use Rattle.c_writer.specs.Within.{AreWithin}
+use Rattle.c_writer.specs.Within.{AreWithin, FormatHasRoom}
 use Rattle.c_writer.proofs.Chains.{program_agrees}
+use Rattle.c_writer.proofs.Extracting.{assigns_at}
+use Rattle.c_writer.proofs.Filling.{given_has}
+use Rattle.c_writer.proofs.SoundValues.{value_has_room, value_keeps}
 use Rattle.c_writer.proofs.Lines.{layout_tokens}
 use Rattle.c_writer.proofs.Rules.{pairs_map, keeps_rules}
 use Rattle.c_writer.proofs.SetsByName.{text_itself, found_at}
@@ -49,7 +61,7 @@ no_set = record { name = []; members = []; outside = false }
 no_member : Member
 no_member = record { ctype = Int; name = [] }
 
-no_format : Format
+abbrev no_format : Format
 no_format = record { name = []; set = 0; bits = 0; fixed_bits = 0; fixed_mask = 0; ignored = 0; values = [] }
 
 no_pattern : Pattern
@@ -94,55 +106,79 @@ declared_keep sets h k d below =
 at : {X Y : Type 0} (P : Y → Type 0) (f : X → Y) (xs : List X) (n : ℕ) (d : Y) → All (λ x. P (f x)) xs → n < length xs → P (get_or (map f xs) n d)
 at P f xs n d h below = All-map P f xs h n d (subst (λ l. n < l) (sym (length-map xs f)) below)
 
-module _ (sets : List SetDef) (formats : List Format) where
-  -- the set of a format, by its number and by its name
-  set_of_format : (n : ℕ) → n < length formats → set_name sets (get_or (map (λ f. f.set) formats) n 0) ≡ (get_or (map (extraction_of sets) formats) n (extraction_of sets no_format)).set
-  set_of_format n below =
-      ap (set_name sets) (get_or-map (λ (f : Format). f.set) formats n no_format 0 below)
-      ∙ sym (ap (λ (e : Extraction). e.set) (get_or-map (extraction_of sets) formats n no_format (extraction_of sets no_format) below))
+-- what an argument gets, by a permutation of the arguments' names
+given_first : (b : Bool) (given : FieldValue) (rest : Option FieldValue) → b ≡ true → IsSome (cond b (Some given) rest)
+given_first true given rest h = refl
+given_first false given rest h = cc
 
-  name_of_format : (n : ℕ) → n < length formats → format_name formats n ≡ (get_or (map (extraction_of sets) formats) n (extraction_of sets no_format)).format
-  name_of_format n below =
-      get_or-map (λ (f : Format). f.name) formats n no_format [] below
-      ∙ sym (ap (λ (e : Extraction). e.format) (get_or-map (extraction_of sets) formats n no_format (extraction_of sets no_format) below))
+given_where : (name : Name) (v : Name × FieldValue) (vs : GivenValues) (b : Bool) → (b || list_any (is_text name) (map (λ (w : Name × FieldValue). w.0) vs)) ≡ true
+    → (list_any (is_text name) (map (λ (w : Name × FieldValue). w.0) vs) ≡ true → IsSome (given_in vs name)) → IsSome (cond b (Some v.1) (given_in vs name))
+given_where name v vs true h later = refl
+given_where name v vs false h later = later h
 
-  -- the extraction of a format is among all extractions
-  extraction_there : (n : ℕ) → n < length formats → list_any (λ e. is_text (format_name formats n) e.format && is_text (set_name sets (get_or (map (λ f. f.set) formats) n 0)) e.set) (map (extraction_of sets) formats) ≡ true
-  extraction_there n below =
-      list_any_at (λ e. is_text (format_name formats n) e.format && is_text (set_name sets (get_or (map (λ f. f.set) formats) n 0)) e.set) (map (extraction_of sets) formats) n (extraction_of sets no_format)
-      (subst (λ l. n < l) (sym (length-map formats (extraction_of sets))) below)
-      (rw (name_of_format n below, set_of_format n below) (both_themselves (there n).format (there n).set))
-    where
-      there : ℕ → Extraction
-      there n = get_or (map (extraction_of sets) formats) n (extraction_of sets no_format)
+given_some : (name : Name) (vs : GivenValues) → list_any (is_text name) (map (λ (w : Name × FieldValue). w.0) vs) ≡ true → IsSome (given_in vs name)
+given_some name [] h = cc
+given_some name (v ∷ vs) h = given_where name v vs (is_text name v.0) h (given_some name vs)
 
-      both_themselves : (a b : Name) → (is_text a a && is_text b b) ≡ true
-      both_themselves a b = rw (text_itself a, text_itself b) refl
+each_given : (ms : List Member) (vs : GivenValues) → IsPermutation (map (λ (v : Name × FieldValue). v.0) vs) (map (λ (m : Member). m.name) ms) → All (λ m. IsSome (given_in vs m.name)) ms
+each_given ms vs h k d below =
+    let name = (get_or ms k d).name in
+    let names = map (λ (m : Member). m.name) ms in
+    let there : is_text name (get_or names k d.name) ≡ true = ap (is_text name) (get_or-map (λ (m : Member). m.name) ms k d d.name below) ∙ text_itself name in
+    given_some name vs
+    (list_any-IsPermutation (is_text name) (map (λ (v : Name × FieldValue). v.0) vs) names h
+    ∙ list_any_at (is_text name) names k d.name (subst (λ n. k < n) (sym (length-map ms (λ (m : Member). m.name))) below) there)
 
--- a list whose permutation is empty
-nothing_left : {X : Type 0} (xs : List X) → IsPermutation [] xs → xs ≡ []
-nothing_left xs h = nil_from_length xs (length_permutation [] xs h)
+-- what an extraction assigns keeps the rules
+assignment_keeps : (w : Width) (name : Name) (o : Option FieldValue) (vs all : GivenValues) → IsName name → given_in all name ≡ o → All (λ v. IsSoundValue (width_bits w) v.1) all → All AssignmentKeeps (map (assignment_of (helper_bits w)) vs)
+    → All AssignmentKeeps (map (assignment_of (helper_bits w)) (given_before name o vs))
+assignment_keeps w name None vs all named is sound h = h
+assignment_keeps w name (Some given) vs all named is sound h =
+    let keeps : IsSoundValue (width_bits w) given = given_has (IsSoundValue (width_bits w)) all name given sound is in
+    All-cons AssignmentKeeps (assignment_of (helper_bits w) (name, given)) (map (assignment_of (helper_bits w)) vs) (record { argument = named; value = value_keeps w given keeps }) h
 
-no_names : {X Y : Type 0} (f : X → Y) (xs : List X) → map f xs ≡ [] → xs ≡ []
-no_names f [] h = refl
-no_names f (x ∷ xs) h = cc
+assignments_keep : (w : Width) (ms : List Member) (vs : GivenValues) → All (λ m. IsName m.name) ms → All (λ v. IsSoundValue (width_bits w) v.1) vs → All AssignmentKeeps (assignments_of (helper_bits w) ms vs)
+assignments_keep w [] vs named sound = All-nil _
+assignments_keep w (m ∷ ms) vs named sound =
+    assignment_keeps w m.name (given_in vs m.name) (in_set_order ms vs) vs (All-head (λ (m : Member). IsName m.name) m ms named) refl sound
+    (assignments_keep w ms vs (All-tail (λ (m : Member). IsName m.name) m ms named) sound)
 
--- where nothing is given a value, the set of a pattern has no arguments
-no_arguments : (sets : List SetDef) (formats : List Format) (p : Pattern) → p.format < length formats → set_number formats p < length sets
-    → All (λ f. f.values ≡ []) formats → p.values ≡ [] → GivesArguments sets formats p
-    → (get_or sets (set_number formats p) no_set).members ≡ []
-no_arguments sets formats p format set none own gives =
-    let first : get_or (map (λ f. f.values) formats) p.format [] ≡ [] = get_or-map (λ (f : Format). f.values) formats p.format no_format [] format ∙ none p.format no_format format in
-    let given : given_names formats p ≡ [] = rw (first, own) refl in
-    let arguments : argument_names sets formats p ≡ [] = nothing_left (argument_names sets formats p) (subst (λ l. IsPermutation l (argument_names sets formats p)) given gives) in
-    sym (get_or-map (λ (s : SetDef). s.members) sets (set_number formats p) no_set [] set) ∙ no_names (λ (m : Member). m.name) _ arguments
+module _ (n : ℕ) (sets : List SetDef) (formats : List Format) where
+  -- the format of a pattern, and what it says
+  abbrev format_of : Pattern → Format
+  format_of p = get_or formats p.format no_format
 
--- the set of a pattern is found by its name
-set_there : (sets : List SetDef) (n : ℕ) → AllPairs (λ s t. s.name ≢ t.name) sets → n < length sets → (get_or sets n no_set).members ≡ [] → HasNoArguments sets (set_name sets n)
-set_there sets n differ below empty =
+  abbrev IsOfFormat : Pattern → Type 0
+  IsOfFormat p = p.format < length formats
+
+  set_of_format : (p : Pattern) → IsOfFormat p → set_number formats p ≡ (format_of p).set
+  set_of_format p below = get_or-map (λ (f : Format). f.set) formats p.format no_format 0 below
+
+  name_of_format : (p : Pattern) → IsOfFormat p → format_name formats p.format ≡ (format_of p).name
+  name_of_format p below = get_or-map (λ (f : Format). f.name) formats p.format no_format [] below
+
+  values_of_format : (p : Pattern) → IsOfFormat p → p.values ≡ [] → given_values formats p ≡ (format_of p).values
+  values_of_format p below none =
+      ap₂ ◌++◌ (get_or-map (λ (f : Format). f.values) formats p.format no_format [] below) none ∙ append-nil (format_of p).values
+
+  -- the extraction of the format is found by its name
+  format_there : (p : Pattern) → AllPairs (λ e f. e.format ≢ f.format) (map (extraction_of n sets) formats) → IsOfFormat p → p.values ≡ []
+      → assigns_in (map (extraction_of n sets) formats) (format_name formats p.format) (set_name sets (set_number formats p)) ≡ Some (assignments_of n (members_of_pattern sets formats p) (given_values formats p))
+  format_there p differ below none =
+      let es = map (extraction_of n sets) formats in
+      let e = extraction_of n sets no_format in
+      let inside : p.format < length es = subst (λ l. p.format < l) (sym (length-map formats (extraction_of n sets))) below in
+      let there = subst (λ (x : Extraction). assigns_in es x.format x.set ≡ Some x.assigns) (get_or-map (extraction_of n sets) formats p.format no_format e below) (assigns_at es p.format e differ inside) in
+      ap₂ (assigns_in es) (name_of_format p below) (ap (set_name sets) (set_of_format p below))
+      ∙ there
+      ∙ sym (ap₂ (λ s vs. Some (assignments_of n (set_members sets s) vs)) (set_of_format p below) (values_of_format p below none))
+
+-- the set of a pattern is found by its name, with its arguments
+set_there : (sets : List SetDef) (n : ℕ) → AllPairs (λ s t. s.name ≢ t.name) sets → n < length sets → option_map (λ s. s.members) (set_at sets (set_name sets n)) ≡ Some (set_members sets n)
+set_there sets n differ below =
     ap (λ name. option_map (λ (s : SetDef). s.members) (set_at sets name)) (get_or-map (λ (s : SetDef). s.name) sets n no_set [] below)
     ∙ ap (option_map (λ (s : SetDef). s.members)) (found_at sets n no_set differ below)
-    ∙ ap Some empty
+    ∙ ap Some (sym (get_or-map (λ (s : SetDef). s.members) sets n no_set [] below))
 
 sound_parts : (options : Options) (model : Model) → IsOptions options → model.width ≡ options.width → IsSound model → AreSound (parts_of options (definitions_in model))
 sound_parts options model asked width s = record {
@@ -151,11 +187,17 @@ sound_parts options model asked width s = record {
   sets_named = names;
   sets_differ = s.set_names;
   sets_keep = declared_keep model.sets s.sets_sound;
-  extractions_named = All-map ExtractionNamed (extraction_of model.sets) model.formats (λ k d below. record {
-    format = s.formats_named k d below;
-    set = at IsName (λ (d : SetDef). d.name) model.sets (get_or model.formats k d).set [] names (s.set_numbers k d below);
-  });
-  formats_differ = pairs_map (λ (e f : Extraction). e.format ≢ f.format) (extraction_of model.sets) no_format model.formats s.format_names;
+  extractions_keep = All-map ExtractionKeeps extraction model.formats (λ k d below.
+      let f = get_or model.formats k d in
+      record {
+        format = s.formats_named k d below;
+        set = at IsName (λ (d : SetDef). d.name) model.sets f.set [] names (s.set_numbers k d below);
+        assigns =
+            assignments_keep options.width (set_members model.sets f.set) f.values
+            (at (λ (ms : List Member). All (λ m. IsName m.name) ms) (λ (d : SetDef). d.members) model.sets f.set [] arguments (s.set_numbers k d below))
+            (values k d below);
+      });
+  formats_differ = apart;
   patterns_sound = All-map (IsSoundIn parts) (named_pattern model.sets model.formats) model.patterns each_sound;
   one_set = pairs_map HaveOneSet (named_pattern model.sets model.formats) no_pattern model.patterns
       (λ i j d below within same. ap (set_name model.sets) (s.one_set i j d below within same));
@@ -166,6 +208,20 @@ sound_parts options model asked width s = record {
 
     names : All (λ s. IsName s.name) model.sets
     names = All-weaker IsSoundSet (λ (d : SetDef). IsName d.name) (λ d h. h.named) model.sets s.sets_sound
+
+    extraction : Format → Extraction
+    extraction = extraction_of (helper_bits options.width) model.sets
+
+    arguments : All (λ (d : SetDef). All (λ m. IsName m.name) d.members) model.sets
+    arguments =
+        All-weaker IsSoundSet (λ (d : SetDef). All (λ m. IsName m.name) d.members)
+        (λ d h. All-weaker (λ (m : Member). IsCName m.name) (λ (m : Member). IsName m.name) (λ m k. name_of_c_name m.name k) d.members h.c_names) model.sets s.sets_sound
+
+    values : All (λ (f : Format). All (λ v. IsSoundValue (width_bits options.width) v.1) f.values) model.formats
+    values = subst (λ w. All (λ (f : Format). All (λ v. IsSoundValue (width_bits w) v.1) f.values) model.formats) width s.format_values
+
+    apart : AllPairs (λ e f. e.format ≢ f.format) (map extraction model.formats)
+    apart = pairs_map (λ (e f : Extraction). e.format ≢ f.format) extraction no_format model.formats s.format_names
 
     flat : All (λ p. IsSoundPattern (width_bits model.width) (pattern_seen p)) model.patterns
     flat k d below =
@@ -181,31 +237,43 @@ sound_parts options model asked width s = record {
           pattern = subst (λ w. IsSoundPattern (width_bits w) (pattern_seen p)) width (flat k d below);
           format_named = at IsName (λ (f : Format). f.name) model.formats p.format [] s.formats_named format;
           set_named = at IsName (λ (d : SetDef). d.name) model.sets (set_number model.formats p) [] names set;
-          set =
-              set_there model.sets (set_number model.formats p) s.set_names set
-              (no_arguments model.sets model.formats p format set s.format_values (s.pattern_values k d below) (s.values k d below));
-          format = extraction_there model.sets model.formats p.format format;
+          set = set_there model.sets (set_number model.formats p) s.set_names set;
+          format = format_there (helper_bits options.width) model.sets model.formats p apart format (s.pattern_values k d below);
+          values = record {
+            each = each_given (members_of_pattern model.sets model.formats p) (given_values model.formats p) (s.values k d below);
+            sound =
+                subst (λ (vs : GivenValues). All (λ v. IsSoundValue (width_bits options.width) v.1) vs)
+                (sym (values_of_format (helper_bits options.width) model.sets model.formats p format (s.pattern_values k d below))) (values p.format no_format format);
+          };
         }
 
 -- the numbers of a sound model are in range
 pub within_sound : (model : Model) → IsSound model → AreWithin (definitions_in model)
 within_sound model s = record { forms = s.set_numbers; patterns = s.format_numbers }
 
-flat_parts : (sets : List SetDef) (formats : List Format) (ps : List Pattern) → map (λ q. q.pattern) (map (named_pattern sets formats) ps) ≡ map pattern_seen ps
-flat_parts sets formats [] = refl
-flat_parts sets formats (p ∷ ps) = ap (λ l. pattern_seen p ∷ l) (flat_parts sets formats ps)
+-- helpers have room for its values
+pub room_sound : (options : Options) (model : Model) → model.width ≡ options.width → IsSound model → All (FormatHasRoom (helper_bits options.width)) model.formats
+room_sound options model width s =
+    subst (λ w. All (FormatHasRoom (helper_bits w)) model.formats) width
+    (λ k d below. All-weaker (λ v. IsSoundValue (width_bits model.width) v.1) (λ v. HasRoom (helper_bits model.width) v.1)
+    (λ v h. value_has_room model.width v.1 h) (get_or model.formats k d).values (s.format_values k d below))
 
-layout_decodes : (p : Parts) → AreSound p → IsDecoder (layout p) (outside_sets p.sets) (patterns_in p)
+trials_of_parts : (sets : List SetDef) (formats : List Format) (ps : List Pattern) → map (λ q. q.trial) (map (named_pattern sets formats) ps) ≡ map (trial_pattern sets formats) ps
+trials_of_parts sets formats [] = refl
+trials_of_parts sets formats (p ∷ ps) = ap (λ l. trial_pattern sets formats p ∷ l) (trials_of_parts sets formats ps)
+
+layout_decodes : (p : Parts) → AreSound p → IsDecoder p.width (layout p) (outside_sets p.sets) (patterns_in p)
 layout_decodes p s = record {
   program = chain_program p;
   spells = record { rules = keeps_rules p s; tokens = layout_tokens p s };
-  decodes = λ word outcomes. program_agrees (script outcomes) p word 0 s;
+  width_of_words = refl;
+  decodes = λ word outcomes answers small. program_agrees (script outcomes answers) p word 0 small s;
 }
 
 -- the text of a sound model decodes its patterns
 pub text_decodes : (options : Options) (model : Model) (text : List ℕ) → IsOptions options → model.width ≡ options.width → IsSound model
-    → text ≡ layout (parts_of options (definitions_in model)) → IsDecoder text (outside_sets model.sets) (map pattern_seen model.patterns)
+    → text ≡ layout (parts_of options (definitions_in model)) → IsDecoder options.width text (outside_sets model.sets) (trial_patterns (definitions_in model))
 text_decodes options model text asked width s is =
-    subst (λ t. IsDecoder t (outside_sets model.sets) (map pattern_seen model.patterns)) (sym is)
-    (subst (λ (ps : List FlatPattern). IsDecoder (layout (parts_of options (definitions_in model))) (outside_sets model.sets) ps) (flat_parts model.sets model.formats model.patterns)
+    subst (λ t. IsDecoder options.width t (outside_sets model.sets) (trial_patterns (definitions_in model))) (sym is)
+    (subst (λ (ps : List TrialPattern). IsDecoder options.width (layout (parts_of options (definitions_in model))) (outside_sets model.sets) ps) (trials_of_parts model.sets model.formats model.patterns)
     (layout_decodes (parts_of options (definitions_in model)) (sound_parts options model asked width s)))

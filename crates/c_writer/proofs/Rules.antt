@@ -12,21 +12,21 @@ use Rattle.dt_values.specs.Names.{IsName}
 use Rattle.dt_values.specs.Widths.{width_bits}
 use Rattle.dt_fields.specs.declared.set.SetDef.{SetDef}
 use Rattle.c_subset.specs.Programs.{Name, Prefix, Pattern, Extraction, Stmts}
-use Rattle.c_subset.specs.Keeps.{StmtsNamed, StmtsBelow, HaveNoCall, AllDiffer, KeepsRules}
+use Rattle.c_subset.specs.Keeps.{StmtsKeep, StmtsBelow, HaveNoCall, AllDiffer, KeepsRules}
 use Rattle.c_writer.specs.Parts.{NamedPattern, Parts}
 use Rattle.c_writer.specs.Prototypes.{has_other_name, first_of_each_name, prototype_of, prototypes}
 use Rattle.c_writer.specs.Chain.{test_then, chain, prefix_where_patterns, chain_program}
 use Rattle.c_writer.specs.Sound.{IsSoundIn, AreSound}
 use Rattle.c_writer.specs.Uses.{is_set_used, is_format_used}
-use Rattle.c_writer.proofs.Lines.{prototypes_named, used_sets_named, used_extractions_named}
+use Rattle.c_writer.proofs.Lines.{prototypes_named, used_sets_named, used_extractions_keep}
 
 -- patterns of other names
 abbrev HaveOtherNames : NamedPattern → NamedPattern → Type 0
-HaveOtherNames q r = q.pattern.name ≢ r.pattern.name
+HaveOtherNames q r = q.trial.flat.name ≢ r.trial.flat.name
 
 other_name : (q r : NamedPattern) → has_other_name q r ≡ true → HaveOtherNames q r
 other_name q r h e =
-    let same : pointwise nat_eq r.pattern.name q.pattern.name ≡ true = subst (λ n. pointwise nat_eq n q.pattern.name ≡ true) e (nat_list_eq_equiv.refl q.pattern.name) in cc
+    let same : pointwise nat_eq r.trial.flat.name q.trial.flat.name ≡ true = subst (λ n. pointwise nat_eq n q.trial.flat.name ≡ true) e (nat_list_eq_equiv.refl q.trial.flat.name) in cc
 
 firsts_differ : (qs : List NamedPattern) → AllPairs HaveOtherNames (first_of_each_name qs)
 firsts_differ [] = λ i j d below within. absurd (omega arith)
@@ -44,7 +44,11 @@ pairs_map R f e xs h = λ i j d below within.
 
 unnamed : NamedPattern
 unnamed = record {
-  pattern = record { name = []; file = 0; line = 0; bits = 0; fixed_mask = 0; fixed_bits = 0 };
+  trial = record {
+    flat = record { name = []; file = 0; line = 0; bits = 0; fixed_mask = 0; fixed_bits = 0 };
+    members = [];
+    values = [];
+  };
   format = [];
   set = [];
 }
@@ -78,15 +82,15 @@ no_set : SetDef
 no_set = record { name = []; members = []; outside = false }
 
 no_extraction : Extraction
-no_extraction = record { format = []; set = [] }
+no_extraction = record { format = []; set = []; assigns = [] }
 
-test_named : (p : Parts) (b : Bool) (q : NamedPattern) (rest : Stmts) → IsSoundIn p q → StmtsNamed rest → StmtsNamed (test_then b q rest)
-test_named p true q rest h r = ((h.format_named, h.set_named), ((h.pattern.named, h.set_named), r))
-test_named p false q rest h r = (((h.format_named, h.set_named), ((h.pattern.named, h.set_named), tt)), r)
+test_keeps : (p : Parts) (b : Bool) (q : NamedPattern) (rest : Stmts) → IsSoundIn p q → StmtsKeep rest → StmtsKeep (test_then b q rest)
+test_keeps p true q rest h r = ((h.format_named, h.set_named), ((h.pattern.named, h.set_named), r))
+test_keeps p false q rest h r = (((h.format_named, h.set_named), ((h.pattern.named, h.set_named), tt)), r)
 
-chain_named : (p : Parts) (qs : List NamedPattern) → All (IsSoundIn p) qs → StmtsNamed (chain qs)
-chain_named p [] h = tt
-chain_named p (q ∷ qs) h = test_named p (q.pattern.fixed_mask == 0) q (chain qs) (All-head (IsSoundIn p) q qs h) (chain_named p qs (All-tail (IsSoundIn p) q qs h))
+chain_keeps : (p : Parts) (qs : List NamedPattern) → All (IsSoundIn p) qs → StmtsKeep (chain qs)
+chain_keeps p [] h = tt
+chain_keeps p (q ∷ qs) h = test_keeps p (q.trial.flat.fixed_mask == 0) q (chain qs) (All-head (IsSoundIn p) q qs h) (chain_keeps p qs (All-tail (IsSoundIn p) q qs h))
 
 test_below : (p : Parts) (b : Bool) (q : NamedPattern) (rest : Stmts) → IsSoundIn p q → StmtsBelow (2 ^ width_bits p.width) rest → StmtsBelow (2 ^ width_bits p.width) (test_then b q rest)
 test_below p true q rest h r = (tt, (tt, r))
@@ -94,7 +98,7 @@ test_below p false q rest h r = ((h.pattern.mask_below, h.pattern.bits_below, (t
 
 chain_below : (p : Parts) (qs : List NamedPattern) → All (IsSoundIn p) qs → StmtsBelow (2 ^ width_bits p.width) (chain qs)
 chain_below p [] h = tt
-chain_below p (q ∷ qs) h = test_below p (q.pattern.fixed_mask == 0) q (chain qs) (All-head (IsSoundIn p) q qs h) (chain_below p qs (All-tail (IsSoundIn p) q qs h))
+chain_below p (q ∷ qs) h = test_below p (q.trial.flat.fixed_mask == 0) q (chain qs) (All-head (IsSoundIn p) q qs h) (chain_below p qs (All-tail (IsSoundIn p) q qs h))
 
 no_calls : (qs : List NamedPattern) → prototypes qs ≡ [] → HaveNoCall (chain qs)
 no_calls [] h = tt
@@ -108,7 +112,7 @@ keeps_rules p s = record {
   prefix_named = prefix_has_name p.patterns p.prefix s.prefix_named;
   patterns_named = prototypes_named p s;
   patterns_differ = names_differ (first_of_each_name p.patterns) (firsts_differ p.patterns);
-  extracts_named = used_extractions_named p s;
+  extracts_keep = used_extractions_keep p s;
   formats_differ = passing_differ (λ (e : Extraction). e.format) no_extraction (λ e. is_format_used p.patterns e.format) p.extractions s.formats_differ;
   decoder_named = s.decoder_named;
   union_sets_named = used_sets_named p s;
@@ -116,7 +120,7 @@ keeps_rules p s = record {
       AllPairs-filter (λ x y. x ≢ y) (is_set_used p.patterns) _
       (pairs_map (λ x y. x ≢ y) (λ (d : SetDef). d.name) no_set p.sets s.sets_differ);
   union_with_patterns = union_empty p.patterns (map (λ d. d.name) p.sets);
-  body_named = chain_named p p.patterns s.patterns_sound;
+  body_keeps = chain_keeps p p.patterns s.patterns_sound;
   body_below = chain_below p p.patterns s.patterns_sound;
   calls_with_patterns = no_calls p.patterns;
 }

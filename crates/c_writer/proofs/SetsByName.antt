@@ -1,6 +1,6 @@
 -- Sets are found by their names, which differ, in whatever order the sets stand.
 use Rattle.std.proofs.Common.{◌≡◌, ◌≢◌, ℕ, zero, suc, ◌<◌, List, [], ◌∷◌, ◌++◌, length, get_or, Option, Some, None, Bool, true, false, not, cond, refl, sym, ap, ◌∙◌, subst, arith}
-use Rattle.std.specs.Prelude.{All, AllPairs, option_map}
+use Rattle.std.specs.Prelude.{All, AllPairs}
 use Rattle.std.specs.Option.{option_or}
 use Rattle.std.proofs.lemmas.List.Elements.{All-head, All-tail, All-filter}
 use Rattle.std.proofs.lemmas.List.Folds.{find-append}
@@ -18,7 +18,7 @@ is_other : (m n : Name) → (m ≡ n → ⊥) → (b : Bool) → is_text m n ≡
 is_other m n differ true is = absurd (differ ((bytes_eq-Decides m n).0 is))
 is_other m n differ false is = refl
 
-other_text : (m n : Name) → (m ≡ n → ⊥) → is_text m n ≡ false
+pub other_text : (m n : Name) → (m ≡ n → ⊥) → is_text m n ≡ false
 other_text m n differ = is_other m n differ (is_text m n) refl
 
 abbrev pub HaveOtherNames : List SetDef → Type 0
@@ -78,13 +78,3 @@ named_by set t s rest false is found later = later found
 pub found_named : (sets : List SetDef) (set : Name) (s : SetDef) → set_at sets set ≡ Some s → is_text set s.name ≡ true
 found_named [] set s h = absurd (cc)
 found_named (t ∷ ts) set s h = named_by set t s (set_at ts set) (is_text set t.name) refl h (found_named ts set s)
-
--- a set without arguments, as it is found
-pub record FoundEmpty (found : Option SetDef) : Type 0 where
-  pub definition : SetDef
-  pub found_is : found ≡ Some definition
-  pub empty : definition.members ≡ []
-
-pub found_empty : (found : Option SetDef) → option_map (λ s. s.members) found ≡ Some [] → FoundEmpty found
-found_empty None h = absurd (cc)
-found_empty (Some s) h = record { definition = s; found_is = refl; empty = (cc) }

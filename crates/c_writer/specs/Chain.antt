@@ -7,17 +7,17 @@ use Rattle.c_writer.specs.Uses.{declared_sets, used_extractions, used_sets}
 
 -- the extraction and the call of a pattern
 abbrev pub body_then : NamedPattern → Stmts → Stmts
-body_then q rest = then (extract q.format q.set) (then (call q.pattern.name q.set) rest)
+body_then q rest = then (extract q.format q.set) (then (call q.trial.flat.name q.set) rest)
 
 -- a pattern that fixes no bit has its body alone
 abbrev pub test_then : Bool → NamedPattern → Stmts → Stmts
 test_then true q rest = body_then q rest
-test_then false q rest = then (on_mask q.pattern.fixed_mask q.pattern.fixed_bits (body_then q done)) rest
+test_then false q rest = then (on_mask q.trial.flat.fixed_mask q.trial.flat.fixed_bits (body_then q done)) rest
 
 -- the tests of the patterns, one after another
 abbrev pub chain : List NamedPattern → Stmts
 chain [] = done
-chain (q ∷ qs) = test_then (q.pattern.fixed_mask == 0) q (chain qs)
+chain (q ∷ qs) = test_then (q.trial.flat.fixed_mask == 0) q (chain qs)
 
 -- the prefix is there where a pattern is
 abbrev pub prefix_where_patterns : List NamedPattern → Prefix → Option Prefix

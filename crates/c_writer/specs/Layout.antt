@@ -1,5 +1,5 @@
 -- The bytes of the C text of a decoder, line by line (docs/C_SUBSET.md, "The text").
-use Rattle.std.specs.Prelude.{ℕ, ◌+◌, ◌==◌, Bool, true, false, List, [], ◌∷◌, ◌++◌, flat_map, codes, decimal}
+use Rattle.std.specs.Prelude.{ℕ, ◌+◌, ◌==◌, Bool, true, false, List, [], ◌∷◌, ◌++◌, flat_map, codes, decimal, None}
 use Rattle.dt_values.specs.declared.ctype.Member.{Member}
 use Rattle.dt_values.specs.declared.width.Width.{Width}
 use Rattle.dt_values.specs.Types.{type_name}
@@ -7,8 +7,10 @@ use Rattle.dt_fields.specs.declared.set.SetDef.{SetDef}
 use Rattle.dt_text.specs.Hexadecimal.{hex}
 use Rattle.dt_text.specs.Pieces.{text, name, spaces, pieces_text}
 use Rattle.dt_forms.specs.Patterns.{FlatPattern}
+use Rattle.c_subset.specs.Exprs.{Assignment}
 use Rattle.c_subset.specs.Programs as c
 use Rattle.c_subset.specs.Programs.{Name, Extraction, Prefix, hex_length, word_type}
+use Rattle.c_fields.specs.ExprLayout.{assign_line}
 use Rattle.c_writer.specs.Parts.{NamedPattern, Parts}
 use Rattle.c_writer.specs.Prototypes.{prototypes}
 use Rattle.c_writer.specs.Uses.{declared_sets, used_extractions, used_sets}
@@ -49,11 +51,21 @@ prototype_line prefix n =
 abbrev pub prototype_lines : Prefix → c.Pattern → List ℕ
 prototype_lines prefix p = typedef_line p ++ (static_text prefix.is_static ++ prototype_line prefix.name p.name)
 
+abbrev pub close_line : ℕ → List ℕ
+close_line level = pieces_text (spaces level ∷ text (codes "}\n") ∷ [])
+
+abbrev pub extraction_head_line : Width → Name → Name → Name → List ℕ
+extraction_head_line w decoder format set =
+    pieces_text (text (codes "\nstatic void ") ∷ name decoder ∷ name (codes "_extract_") ∷ name format
+    ∷ text (codes "(DisasContext *ctx, arg_") ∷ name set ∷ text (codes " *a, ") ∷ name (word_type w)
+    ∷ text (codes " insn)\n{\n") ∷ [])
+
+abbrev pub assignment_line : Width → Assignment → List ℕ
+assignment_line w a = assign_line w 4 None a.argument a.value
+
 abbrev pub extraction_lines : Width → Name → Extraction → List ℕ
 extraction_lines w decoder e =
-    pieces_text (text (codes "\nstatic void ") ∷ name decoder ∷ name (codes "_extract_") ∷ name e.format
-    ∷ text (codes "(DisasContext *ctx, arg_") ∷ name e.set ∷ text (codes " *a, ") ∷ name (word_type w)
-    ∷ text (codes " insn)\n{\n}\n") ∷ [])
+    extraction_head_line w decoder e.format e.set ++ (flat_map (assignment_line w) e.assigns ++ close_line 0)
 
 abbrev pub empty_line : List ℕ
 empty_line = pieces_text (text (codes "\n") ∷ [])
@@ -102,26 +114,23 @@ call_line level prefix n set =
 
 abbrev pub body_lines : Parts → ℕ → NamedPattern → List ℕ
 body_lines p level q =
-    comment_line level q.pattern
+    comment_line level q.trial.flat
     ++ (extract_line level p.decoder q.format q.set
-    ++ call_line level p.prefix.name q.pattern.name q.set)
+    ++ call_line level p.prefix.name q.trial.flat.name q.set)
 
 abbrev pub if_line : Width → ℕ → ℕ → ℕ → List ℕ
 if_line w level mask value =
     pieces_text (spaces level ∷ text (codes "if ((insn & 0x") ∷ name (hex (hex_length w) mask)
     ∷ text (codes ") == 0x") ∷ name (hex (hex_length w) value) ∷ text (codes ") {\n") ∷ [])
 
-abbrev pub close_line : ℕ → List ℕ
-close_line level = pieces_text (spaces level ∷ text (codes "}\n") ∷ [])
-
 -- a pattern that fixes no bit has its body alone
 abbrev pub test_lines : Bool → Parts → NamedPattern → List ℕ
 test_lines true p q = body_lines p 4 q
 test_lines false p q =
-    if_line p.width 4 q.pattern.fixed_mask q.pattern.fixed_bits ++ (body_lines p 8 q ++ close_line 4)
+    if_line p.width 4 q.trial.flat.fixed_mask q.trial.flat.fixed_bits ++ (body_lines p 8 q ++ close_line 4)
 
 abbrev pub pattern_lines : Parts → NamedPattern → List ℕ
-pattern_lines p q = test_lines (q.pattern.fixed_mask == 0) p q
+pattern_lines p q = test_lines (q.trial.flat.fixed_mask == 0) p q
 
 abbrev pub end_lines : List ℕ
 end_lines = pieces_text (text (codes "    return false;\n}\n") ∷ [])

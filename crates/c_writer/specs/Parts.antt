@@ -1,19 +1,24 @@
 -- What the C text of a decoder is made of: options, and sets, formats and patterns by their names (docs/C_SUBSET.md).
 use Rattle.std.specs.Prelude.{ℕ, Bool, List, [], map, get_or}
+use Rattle.dt_values.specs.declared.ctype.Member.{Member}
 use Rattle.dt_values.specs.declared.width.Width.{Width}
 use Rattle.dt_fields.specs.declared.set.SetDef.{SetDef}
 use Rattle.dt_forms.specs.declared.form.Format.{Format}
 use Rattle.dt_forms.specs.declared.form.Pattern.{Pattern}
 use Rattle.dt_forms.specs.declared.options.Options.{Options}
 use Rattle.dt_forms.specs.Models.{Definitions}
-use Rattle.dt_forms.specs.Patterns.{FlatPattern}
+use Rattle.dt_forms.specs.Patterns.{GivenValues, TrialPattern}
 use Rattle.dt_forms.specs.PatternLines.{set_number}
-use Rattle.dt_forms.specs.View.{pattern_seen}
+use Rattle.dt_forms.specs.View.{trial_pattern}
+use Rattle.c_subset.specs.Exprs.{Assignment}
 use Rattle.c_subset.specs.Programs.{Name, Extraction, Prefix}
+use Rattle.c_eval.specs.Meaning.{helper_bits}
+use Rattle.c_fields.specs.Written.{assignment_of}
+use Rattle.c_writer.specs.SetOrder.{in_set_order}
 
 -- a pattern with the names of its format and of its set
 pub record NamedPattern : Type 0 where
-  pub pattern : FlatPattern
+  pub trial : TrialPattern
   pub format : Name
   pub set : Name
 
@@ -31,12 +36,23 @@ pub record Parts : Type 0 where
 abbrev pub set_name : List SetDef → ℕ → Name
 set_name sets n = get_or (map (λ s. s.name) sets) n []
 
+abbrev pub set_members : List SetDef → ℕ → List Member
+set_members sets n = get_or (map (λ s. s.members) sets) n []
+
 abbrev pub format_name : List Format → ℕ → Name
 format_name formats n = get_or (map (λ f. f.name) formats) n []
 
--- a format with its set, each by its name
-abbrev pub extraction_of : List SetDef → Format → Extraction
-extraction_of sets f = record { format = f.name; set = set_name sets f.set }
+-- what the arguments are assigned in an extraction, by helpers of n bits: in the order of the set
+abbrev pub assignments_of : ℕ → List Member → GivenValues → List Assignment
+assignments_of n members values = map (assignment_of n) (in_set_order members values)
+
+-- a format with its set, each by its name, and what it assigns to the set's arguments
+abbrev pub extraction_of : ℕ → List SetDef → Format → Extraction
+extraction_of n sets f = record {
+  format = f.name;
+  set = set_name sets f.set;
+  assigns = assignments_of n (set_members sets f.set) f.values;
+}
 
 -- the names of a pattern's set and of its format
 abbrev pub set_name_of : List SetDef → List Format → Pattern → Name
@@ -47,7 +63,7 @@ format_name_of formats p = format_name formats p.format
 
 abbrev pub named_pattern : List SetDef → List Format → Pattern → NamedPattern
 named_pattern sets formats p = record {
-  pattern = pattern_seen p;
+  trial = trial_pattern sets formats p;
   format = format_name_of formats p;
   set = set_name_of sets formats p;
 }
@@ -64,10 +80,10 @@ parts_of options ds = record {
   decoder_static = options.decode_static;
   prefix = prefix_in options;
   sets = ds.sets;
-  extractions = map (extraction_of ds.sets) ds.formats;
+  extractions = map (extraction_of (helper_bits options.width) ds.sets) ds.formats;
   patterns = map (named_pattern ds.sets ds.formats) ds.patterns;
 }
 
 -- the patterns alone
-abbrev pub patterns_in : Parts → List FlatPattern
-patterns_in p = map (λ q. q.pattern) p.patterns
+abbrev pub patterns_in : Parts → List TrialPattern
+patterns_in p = map (λ q. q.trial) p.patterns

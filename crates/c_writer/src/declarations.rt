@@ -1,17 +1,21 @@
 //! Writes what stands before the decoder: sets, prototypes, extractions.
 
-ghost use Rattle.std.specs.Prelude.{◌≡◌, [], filter, flat_map, map, if◌then◌else◌};
+ghost use Rattle.std.specs.Prelude.{◌≡◌, [], All, filter, flat_map, map, if◌then◌else◌};
 ghost use Rattle.dt_text.specs.Puts.{Puts};
 ghost use Rattle.c_subset.specs.Programs.{word_type};
-ghost use Rattle.c_writer.specs.Layout.{extraction_lines, head_line, member_line, prototype_line, prototype_lines};
+ghost use Rattle.c_eval.specs.Meaning.{helper_bits};
+ghost use Rattle.c_writer.specs.Layout.{extraction_head_line, extraction_lines, head_line, member_line};
+ghost use Rattle.c_writer.specs.Layout.{prototype_line, prototype_lines};
 ghost use Rattle.c_writer.specs.Layout.{set_end_line, set_head_line, set_lines, static_text, typed_line, typedef_line};
 ghost use Rattle.c_writer.specs.Parts.{extraction_of, prefix_in};
 ghost use Rattle.c_writer.specs.Prototypes.{prototype_seen};
 ghost use Rattle.c_writer.specs.Uses.{declared_sets, is_among};
-ghost use Rattle.c_writer.specs.Within.{AreFormsWithin, IsFormatWithin};
+ghost use Rattle.c_writer.specs.Within.{AreFormsWithin, FormatHasRoom, IsFormatWithin};
 
-use crate::names::set_name;
+use crate::assignments::write_assignments;
+use crate::names::{set_members, set_name};
 use crate::prototype::Prototype;
+use crate::statements::write_close_line;
 use dt_fields::SetDef;
 use dt_forms::{Format, Options};
 use dt_text::{Out, Part, write_parts};
@@ -169,45 +173,68 @@ pub fn write_prototypes<W: Out>(out: &mut W, options: &Options, prototypes: &[Pr
     }
 }
 
-fn write_extraction<'a, W: Out>(
+fn write_extraction_head<'a, W: Out>(
     out: &mut W,
-    options: &'a Options,
-    sets: &'a [SetDef],
-    format: &'a Format,
+    width: Width,
+    decoder: &'a Name,
+    format: &'a Name,
+    set: &'a Name,
 )
-    requires { IsFormatWithin sets.now format.now }
     ensures { Puts (W.state out.old) (W.state out.new)
-        (extraction_lines options.now.width options.now.decode (extraction_of sets.now format.now)) }
+        (extraction_head_line width decoder.now format.now set.now) }
 {
-    let set = set_name(sets, format.set);
     write_parts(
         out,
         &[
             Part::Text(b"\nstatic void "),
-            Part::Name(&options.decode),
+            Part::Name(decoder),
             Part::Word(b"_extract_"),
-            Part::Name(&format.name),
+            Part::Name(format),
             Part::Text(b"(DisasContext *ctx, arg_"),
             Part::Name(set),
             Part::Text(b" *a, "),
-            Part::Word(word_type(options.width)),
-            Part::Text(b" insn)\n{\n}\n"),
+            Part::Word(word_type(width)),
+            Part::Text(b" insn)\n{\n"),
         ],
     );
 }
 
+fn write_extraction<W: Out>(out: &mut W, options: &Options, sets: &[SetDef], format: &Format)
+    requires within { IsFormatWithin sets.now format.now }
+    requires room { FormatHasRoom (helper_bits options.now.width) format.now }
+    ensures { Puts (W.state out.old) (W.state out.new) (extraction_lines options.now.width options.now.decode
+        (extraction_of (helper_bits options.now.width) sets.now format.now)) }
+{
+    write_extraction_head(
+        out,
+        options.width,
+        &options.decode,
+        &format.name,
+        set_name(sets, format.set),
+    );
+    write_assignments(
+        out,
+        options.width,
+        set_members(sets, format.set),
+        format.values.items(),
+    );
+    write_close_line(out, 0);
+}
+
 // Writes nothing of a format whose name isn't among these.
 #[tactic(auto, using(dt_text::proofs::Putting::puts_nothing))]
-fn write_extraction_where_used<'a, W: Out>(
+fn write_extraction_where_used<W: Out>(
     out: &mut W,
-    options: &'a Options,
-    sets: &'a [SetDef],
+    options: &Options,
+    sets: &[SetDef],
     used: &IndexSet<Name>,
-    format: &'a Format,
+    format: &Format,
 )
-    requires { IsFormatWithin sets.now format.now }
+    requires within { IsFormatWithin sets.now format.now }
+    requires room { FormatHasRoom (helper_bits options.now.width) format.now }
     ensures { Puts (W.state out.old) (W.state out.new) (if is_among used.now.keys format.now.name
-        then extraction_lines options.now.width options.now.decode (extraction_of sets.now format.now) else []) }
+        then extraction_lines options.now.width options.now.decode
+        (extraction_of (helper_bits options.now.width) sets.now format.now) else []) }
 {
     if used.contains(&format.name) {
         write_extraction(out, options, sets, format);
@@ -223,10 +250,12 @@ pub fn write_extractions<W: Out>(
     used: &IndexSet<Name>,
     formats: &[Format],
 )
-    requires { AreFormsWithin sets.now formats.now }
+    requires within { AreFormsWithin sets.now formats.now }
+    requires room { All (FormatHasRoom (helper_bits options.now.width)) formats.now }
     ensures { Puts (W.state out.old) (W.state out.new)
         (flat_map (extraction_lines options.now.width options.now.decode)
-        (filter (λ e. is_among used.now.keys e.format) (map (extraction_of sets.now) formats.now))) }
+        (filter (λ e. is_among used.now.keys e.format)
+        (map (extraction_of (helper_bits options.now.width) sets.now) formats.now))) }
 {
     for format in formats {
         write_extraction_where_used(out, options, sets, used, format);

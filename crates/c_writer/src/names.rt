@@ -1,12 +1,12 @@
 //! The names of a model's sets and formats, by their numbers.
 
 ghost use Rattle.std.specs.Prelude.{◌≡◌, ◌<◌, length};
-ghost use Rattle.c_writer.specs.Parts.{format_name_of, set_name, set_name_of};
+ghost use Rattle.c_writer.specs.Parts.{format_name_of, set_members, set_name, set_name_of};
 ghost use Rattle.c_writer.specs.Within.{AreFormsWithin, IsPatternWithin};
 
 use dt_fields::SetDef;
 use dt_forms::{Format, Pattern};
-use dt_values::Name;
+use dt_values::{Member, Name};
 
 /// The name of a set by its number.
 pub fn set_name(sets: &[SetDef], number: u32) -> &Name
@@ -14,6 +14,14 @@ pub fn set_name(sets: &[SetDef], number: u32) -> &Name
     ensures { result.now ≡ set_name sets.now number }
 {
     &sets[number as usize].name
+}
+
+/// The arguments of a set by its number.
+pub fn set_members(sets: &[SetDef], number: u32) -> &[Member]
+    requires { number < length sets.now }
+    ensures { result.now ≡ set_members sets.now number }
+{
+    sets[number as usize].members.items()
 }
 
 /// The name of a pattern's set.

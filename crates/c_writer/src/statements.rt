@@ -226,7 +226,7 @@ fn write_if_line<W: Out>(out: &mut W, width: Width, level: u32, mask: u64, value
     );
 }
 
-fn write_close_line<W: Out>(out: &mut W, level: u32)
+pub fn write_close_line<W: Out>(out: &mut W, level: u32)
     ensures { Puts (W.state out.old) (W.state out.new) (close_line level) }
 {
     write_parts(out, &[Part::Spaces(level), Part::Text(b"}\n")]);

@@ -1,16 +1,17 @@
 //! The texts of decoders: with options other than the usual ones, and with argument sets of each kind
 //! (docs/C_SUBSET.md, "The text").
 
-ghost use Rattle.std.specs.Prelude.{◌≡◌, IfOk, vec_len};
+ghost use Rattle.std.specs.Prelude.{◌≡◌, All, IfOk, vec_len};
 ghost use Rattle.dt_forms.specs.Models.{definitions_in};
 ghost use Rattle.dt_forms.specs.Options.{IsOptions};
-ghost use Rattle.c_writer.specs.Within.{AreWithin};
+ghost use Rattle.c_fields.specs.Values.{HasRoom};
+ghost use Rattle.c_writer.specs.Within.{AreWithin, FormatHasRoom, HaveValuesRoom};
 
 use crate::text::{layout, text};
-use dt_fields::{MemberList, SetDef};
+use dt_fields::{FieldDef, MemberList, Segment, Segments, SetDef};
 use dt_forms::{
-    Entry, EntryList, Format, FormatList, Model, Options, Pattern, PatternList, SetList, Source,
-    ValueList, read_model,
+    Entry, EntryList, FieldValue, Format, FormatList, Model, Options, Pattern, PatternList,
+    SetList, Source, ValueList, read_model,
 };
 use dt_values::{CType, Member, Name, Width};
 use std::alloc::Global;
@@ -135,8 +136,9 @@ fn sets(alloc: Global) -> Result<Vec<SetDef>, Fail>
     Ok(vec![in alloc; declared, elsewhere]?)
 }
 
-fn format(alloc: Global, bytes: &[u8], set: u32) -> Result<Format, Fail>
-    ensures { IfOk result (λ format. format.set ≡ set) }
+fn format(bytes: &[u8], set: u32, values: Vec<(Name, FieldValue)>) -> Result<Format, Fail>
+    ensures set { IfOk result (λ format. format.set ≡ set) }
+    ensures values { IfOk result (λ format. format.values ≡ values.items) }
 {
     Ok(Format {
         name: name(bytes)?,
@@ -145,15 +147,15 @@ fn format(alloc: Global, bytes: &[u8], set: u32) -> Result<Format, Fail>
         fixed_bits: 0,
         fixed_mask: 0,
         ignored: 0,
-        values: ValueList::of(Vec::new(alloc)),
+        values: ValueList::of(values),
     })
 }
 
-fn nop(alloc: Global, format: u32) -> Result<Pattern, Fail>
+fn pattern(alloc: Global, bytes: &[u8], format: u32) -> Result<Pattern, Fail>
     ensures { IfOk result (λ pattern. pattern.format ≡ format) }
 {
     Ok(Pattern {
-        name: name(b"nop")?,
+        name: name(bytes)?,
         file: 0,
         line: 5,
         format,
@@ -167,15 +169,19 @@ fn nop(alloc: Global, format: u32) -> Result<Pattern, Fail>
 
 // A model of these sets, of a format of each, and of one pattern of the second.
 fn model(alloc: Global) -> Result<Model, Fail>
-    ensures { IfOk result (λ model. AreWithin (definitions_in model)) }
+    ensures within { IfOk result (λ model. AreWithin (definitions_in model)) }
+    ensures room { IfOk result (λ model. All (FormatHasRoom 32) model.formats) }
 {
-    let formats = vec![in alloc; format(alloc, b"other", 0)?, format(alloc, b"used", 1)?]?;
+    let formats = vec![in alloc;
+        format(b"other", 0, Vec::new(alloc))?,
+        format(b"used", 1, Vec::new(alloc))?,
+    ]?;
     Ok(Model {
         width: Width::W32,
         variable: false,
         sets: SetList::of(sets(alloc)?),
         formats: FormatList::of(formats),
-        patterns: PatternList::of(vec![in alloc; nop(alloc, 1)?]?),
+        patterns: PatternList::of(vec![in alloc; pattern(alloc, b"nop", 1)?]?),
         entries: EntryList::of(vec![in alloc; Entry::One(0)]?),
     })
 }
@@ -186,5 +192,84 @@ fn sets_are_declared_with_their_arguments_or_elsewhere(rt: HostRuntime) -> Resul
     let model = model(alloc)?;
     let written = layout(alloc, &Options::default(), &model)?;
     assert_eq!(rt; written.as_slice(), WITH_SETS.as_bytes());
+    Ok(())
+}
+
+const WITH_VALUES: &str = "/* Made from pattern files. */
+
+typedef struct {
+    int rd;
+    uint64_t imm;
+} arg_r;
+
+typedef arg_r arg_movi;
+static bool trans_movi(DisasContext *ctx, arg_movi *a);
+
+static void decode_extract_moves(DisasContext *ctx, arg_r *a, uint32_t insn)
+{
+    a->rd = extract32(insn, 7, 5);
+    a->imm = -3;
+}
+
+static bool decode(DisasContext *ctx, uint32_t insn)
+{
+    union {
+        arg_r f_r;
+    } u;
+
+    if ((insn & 0xffffffff) == 0x00000000) {
+        /* 1:5 */
+        decode_extract_moves(ctx, &u.f_r, insn);
+        if (trans_movi(ctx, &u.f_r)) return true;
+    }
+    return false;
+}
+";
+
+fn register(alloc: Global) -> Result<FieldValue, Fail>
+    ensures { IfOk result (λ value. HasRoom 32 value) }
+{
+    let mut segments = Segments::new(alloc);
+    segments.push(Segment::Bits {
+        pos: 7,
+        length: 5,
+        signed: false,
+    })?;
+    Ok(FieldValue::Field(FieldDef {
+        segments,
+        function: None,
+    }))
+}
+
+// What the arguments of the first set get, the last of them first.
+fn values(alloc: Global) -> Result<Vec<(Name, FieldValue)>, Fail>
+    ensures { IfOk result (λ values. HaveValuesRoom 32 values.items) }
+{
+    let constant = (name(b"imm")?, FieldValue::Constant(-3));
+    let field = (name(b"rd")?, register(alloc)?);
+    Ok(vec![in alloc; constant, field]?)
+}
+
+// A model of these sets, of a format of the first, and of a pattern.
+fn model_with_values(alloc: Global) -> Result<Model, Fail>
+    ensures within { IfOk result (λ model. AreWithin (definitions_in model)) }
+    ensures room { IfOk result (λ model. All (FormatHasRoom 32) model.formats) }
+{
+    Ok(Model {
+        width: Width::W32,
+        variable: false,
+        sets: SetList::of(sets(alloc)?),
+        formats: FormatList::of(vec![in alloc; format(b"moves", 0, values(alloc)?)?]?),
+        patterns: PatternList::of(vec![in alloc; pattern(alloc, b"movi", 0)?]?),
+        entries: EntryList::of(vec![in alloc; Entry::One(0)]?),
+    })
+}
+
+#[test]
+fn an_extraction_assigns_in_the_order_of_the_set(rt: HostRuntime) -> Result<(), Fail> {
+    let alloc = rt.alloc();
+    let model = model_with_values(alloc)?;
+    let written = layout(alloc, &Options::default(), &model)?;
+    assert_eq!(rt; written.as_slice(), WITH_VALUES.as_bytes());
     Ok(())
 }

@@ -1,17 +1,17 @@
 //! Writes the whole text.
 
-ghost use Rattle.std.specs.Prelude.{◌≡◌, map, IfOk};
+ghost use Rattle.std.specs.Prelude.{◌≡◌, map, All, IfOk};
 ghost use Rattle.dt_text.specs.Puts.{Puts};
-ghost use Rattle.dt_forms.specs.Models.{definitions_in};
+ghost use Rattle.dt_forms.specs.Models.{definitions_in, trial_patterns};
 ghost use Rattle.dt_forms.specs.Options.{IsOptions};
 ghost use Rattle.dt_forms.specs.Sound.{IsSound};
-ghost use Rattle.dt_forms.specs.View.{pattern_seen};
+ghost use Rattle.c_eval.specs.Meaning.{helper_bits};
 ghost use Rattle.c_writer.specs.Decoders.{IsDecoder};
 ghost use Rattle.c_writer.specs.Layout.{decoder_lines, layout};
 ghost use Rattle.c_writer.specs.Parts.{named_pattern, parts_of};
 ghost use Rattle.c_writer.specs.Prototypes.{prototype_seen, prototypes};
 ghost use Rattle.c_writer.specs.Uses.{TellUsed, outside_sets};
-ghost use Rattle.c_writer.specs.Within.{AreWithin};
+ghost use Rattle.c_writer.specs.Within.{AreWithin, FormatHasRoom};
 
 use crate::declarations::{write_extractions, write_head, write_prototypes, write_sets};
 use crate::prototype::{Prototype, prototypes};
@@ -28,15 +28,16 @@ pub fn text(alloc: Global, options: &Options, model: &Model) -> Result<Vec<u8>, 
     requires width { model.now.width ≡ options.now.width }
     requires sound { IsSound model.now }
     ensures layout { IfOk result (λ text. text.items ≡ layout (parts_of options.now (definitions_in model.now))) }
-    ensures decoder { IfOk result (λ text. IsDecoder text.items (outside_sets model.now.sets)
-        (map pattern_seen model.now.patterns)) }
+    ensures decoder { IfOk result (λ text. IsDecoder options.now.width text.items (outside_sets model.now.sets)
+        (trial_patterns (definitions_in model.now))) }
 {
     layout(alloc, options, model)
 }
 
-/// The text alone, which a model has whose numbers are in range.
+/// The text alone, which a model has whose numbers are in range, and whose values the helpers have room for.
 pub(crate) fn layout(alloc: Global, options: &Options, model: &Model) -> Result<Vec<u8>, AllocError>
-    requires { AreWithin (definitions_in model.now) }
+    requires within { AreWithin (definitions_in model.now) }
+    requires room { All (FormatHasRoom (helper_bits options.now.width)) model.now.formats }
     ensures { IfOk result (λ text. text.items ≡ layout (parts_of options.now (definitions_in model.now))) }
 {
     let sets = model.sets.items();
@@ -58,6 +59,7 @@ fn write_text<W: Out>(
     used: &UsedNames,
 )
     requires within { AreWithin (definitions_in model.now) }
+    requires room { All (FormatHasRoom (helper_bits options.now.width)) model.now.formats }
     requires declared { map prototype_seen declared.now
         ≡ prototypes (map (named_pattern model.now.sets model.now.formats) model.now.patterns) }
     requires used { TellUsed used.now (map (named_pattern model.now.sets model.now.formats) model.now.patterns) }

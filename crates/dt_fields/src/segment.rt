@@ -97,8 +97,8 @@ impl Segments {
     }
 }
 
-// How many bits the segments have together.
-pub(crate) fn total_length(segments: &[Segment]) -> u32
+/// How many bits the segments have together.
+pub fn total_length(segments: &[Segment]) -> u32
     requires { length segments.now ≤ MOST_SEGMENTS }
     ensures { result ≡ total_length segments.now }
 {
@@ -109,7 +109,8 @@ pub(crate) fn total_length(segments: &[Segment]) -> u32
     total
 }
 
-fn segment_length(segment: Segment) -> u32
+/// How many bits the segment has.
+pub fn segment_length(segment: Segment) -> u32
     ensures length { result ≡ segment_length segment }
     ensures small { result ≤ u8.MAX }
 {

@@ -20,7 +20,7 @@ use Rattle.dt_forms.specs.declared.form.Pattern.{Pattern}
 use Rattle.dt_forms.specs.Inference.{fits_pattern, formats_with, has_exactly, has_fields_of, matching_format, name_where, new_format, new_set, set_chosen, sets_with}
 use Rattle.dt_forms.specs.PatternLines.{argument_rows, has_other_set, set_number}
 use Rattle.dt_forms.specs.Patterns.{GivenValues}
-use Rattle.dt_forms.specs.Sound.{AreMasks, AreSoundValues, FormatHasMasks, HasMasks, HaveOneSet, ReferToNone}
+use Rattle.dt_forms.specs.Sound.{AreMasks, AreSoundValues, FormatHasMasks, HasMasks, HaveOneSet}
 use Rattle.dt_forms.proofs.Arguments.{arguments_are_given, member_names, new_arguments_are_given, new_set_is_sound, value_names}
 use Rattle.dt_forms.proofs.LineValues.{AreGiven}
 use Rattle.dt_fields.proofs.NewNames.{none_passes}
@@ -39,7 +39,6 @@ pub record IsSoundFormat (width : ℕ) (sets : List SetDef) (f : Format) : Type 
   pub masks : FormatHasMasks width f
   pub set : f.set < length sets
   pub values : AreSoundValues width f.values
-  pub references : ReferToNone f.values
   pub arguments : IsPermutation (value_names f.values) (member_names (members_at sets f.set))
 
 -- a pattern with a format of these, which gives no value of its own
@@ -68,7 +67,6 @@ format_kept width sets more f h = record {
   masks = h.masks;
   set = let below : f.set < length sets = h.set in omega (arith, length-append sets more);
   values = h.values;
-  references = h.references;
   arguments = subst (λ ms. IsPermutation (value_names f.values) (member_names ms)) (sym (members_kept sets more f.set h.set)) h.arguments;
 }
 

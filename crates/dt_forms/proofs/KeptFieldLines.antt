@@ -45,4 +45,4 @@ line_of_word (t ∷ ts) = tokens_of_word no_field ts (All-nil IsOfWord)
 
 pub line_is_kept : (width : ℕ) (fields : FieldTable) (tokens : List (List ℕ)) → IsTrue (begins_field tokens) → field_line_faults width fields tokens ≡ [] → IsKeptField width (line_field tokens).1
 line_is_kept width fields tokens begins none =
-    record { sound = unbroken_field_is_sound width fields tokens begins none; of_word = line_of_word tokens }
+    (unbroken_field_is_sound width fields tokens begins none, line_of_word tokens)

@@ -28,16 +28,15 @@ use Rattle.dt_forms.specs.Elements.{Element, set_named, format_named, constant, 
 use Rattle.dt_forms.specs.Gathering.{field_at, field_or_none, given, given_after, gathered, nothing_given}
 use Rattle.dt_forms.specs.Patterns.{GivenValues}
 use Rattle.dt_forms.specs.Scope.{Scope}
-use Rattle.dt_forms.specs.Sound.{AreSoundValues, IsOfWord, IsSoundValue, ReferToNone, RefersToNone}
+use Rattle.dt_forms.specs.Sound.{AreSoundValues, IsOfWord, IsSoundValue}
 use Rattle.dt_forms.specs.declared.gather.Gathered.{Gathered}
 use Rattle.dt_forms.specs.declared.value.FieldValue.{FieldValue}
 use Rattle.dt_forms.specs.declared.value.FieldValue.TheVariants.{Field, Constant}
 use Rattle.dt_forms.proofs.Unbroken.{texts_differ}
 
 -- fields of lines that break no rule: they are sound, and refer to no argument
-pub record IsKeptField (width : ℕ) (field : FieldDef) : Type 0 where
-  pub sound : IsSoundField width field
-  pub of_word : All IsOfWord field.segments
+abbrev pub IsKeptField : ℕ → FieldDef → Type 0
+IsKeptField width field = IsSoundValue width (Field field)
 
 abbrev pub AreKeptFields : ℕ → FieldTable → Type 0
 AreKeptFields width fields = All (λ f. IsKeptField width f.1) fields
@@ -45,7 +44,6 @@ AreKeptFields width fields = All (λ f. IsKeptField width f.1) fields
 -- what tokens that break no rule give
 pub record AreGiven (width : ℕ) (values : GivenValues) : Type 0 where
   pub sound : AreSoundValues width values
-  pub references : ReferToNone values
   pub c_names : All (λ v. IsCName v.0) values
   pub differ : AllPairs (λ v w. v.0 ≢ w.0) values
   pub few : length values ≤ MOST_ARGUMENTS
@@ -56,7 +54,6 @@ no_pair R i j d h k = absurd (omega arith)
 none_given : (width : ℕ) → AreGiven width []
 none_given width = record {
   sound = All-nil (λ v. IsSoundValue width v.1);
-  references = All-nil (λ v. RefersToNone v.1);
   c_names = All-nil (λ v. IsCName v.0);
   differ = no_pair (λ v w. v.0 ≢ w.0);
   few = omega arith;
@@ -71,8 +68,7 @@ value_more width values text name field h kept named none =
     let rows : (has_value values name ≡ false) × (past ≡ []) = row_unbroken (has_value values name) (rule.G5, token text) past none in
     let others : All (λ v. is_text name v.0 ≡ false) values = none_passes (λ v. is_text name v.0) values rows.0 in
     record {
-      sound = All-push (λ v. IsSoundValue width v.1) values v h.sound kept.sound;
-      references = All-push (λ v. RefersToNone v.1) values v h.references kept.of_word;
+      sound = All-push (λ v. IsSoundValue width v.1) values v h.sound kept;
       c_names = All-push (λ v. IsCName v.0) values v h.c_names named;
       differ = all_pairs_push (λ v w. v.0 ≢ w.0) values v h.differ (λ k d below same. texts_differ name (get_or values k d).0 (others k d below) (sym same));
       few = one_more MOST_ARGUMENTS (length values) (length (values ++ v ∷ [])) (length_push values v) (last_unbroken (nat_le MOST_ARGUMENTS (length values)) (rule.A5, token text) rows.1);
@@ -93,18 +89,16 @@ within width n h = grind (arith, nat_tests)
 placed_is_kept : (width before len : ℕ) (signed : Bool) → 1 ≤ len → before + len ≤ width → IsKeptField width (field_at width before len signed)
 placed_is_kept width before len signed some fits =
     let s : Segment = segment.Bits (width - (before + len)) len signed in
-    record {
-      sound = record {
-        within = All-cons (λ s. segment_end s ≤ width) s [] (omega arith) (All-nil (λ s. segment_end s ≤ width));
-        lengths = All-cons (λ s. 1 ≤ segment_length s) s [] some (All-nil (λ s. 1 ≤ segment_length s));
-        few = omega arith;
-        total = omega arith;
-        some_value = inl (λ same. absurd (cc));
-        apart = refl;
-        c_name = tt;
-      };
-      of_word = All-cons IsOfWord s [] tt (All-nil IsOfWord);
-    }
+    let sound : IsSoundField width (field_at width before len signed) = record {
+      within = All-cons (λ s. segment_end s ≤ width) s [] (omega arith) (All-nil (λ s. segment_end s ≤ width));
+      lengths = All-cons (λ s. 1 ≤ segment_length s) s [] some (All-nil (λ s. 1 ≤ segment_length s));
+      few = omega arith;
+      total = omega arith;
+      some_value = inl (λ same. absurd (cc));
+      apart = refl;
+      c_name = tt;
+    } in
+    (sound, All-cons IsOfWord s [] tt (All-nil IsOfWord))
 
 module _ (width : ℕ) (scope : Scope) (fields : AreKeptFields width scope.fields) where
   element_given : (before : Gathered) (text : List ℕ) (e : Element) → element_rows width scope before text e ≡ [] → AreGiven width before.values

@@ -185,7 +185,6 @@ module _ (options : Options) (limit : ℕ) (decode : IsOptionName options.decode
           masks = no_masks width;
           set = set.number;
           values = given.sound;
-          references = given.references;
           arguments = set.arguments;
         },
         formats_free scope.formats name (new_is_free (is_format_name_taken scope.formats) is_new name free e),

@@ -23,7 +23,7 @@ use Rattle.dt_forms.specs.Patterns.{FlatPattern, position_of}
 use Rattle.dt_forms.specs.Positions.{first_token_at, leading_token}
 use Rattle.dt_forms.specs.Rules.{faults_from, first_fault, scope_before}
 use Rattle.dt_forms.specs.Scope.{Scope, nothing_defined}
-use Rattle.dt_forms.specs.Sound.{AreSoundValues, FormatHasMasks, GivesArguments, HasMasks, HaveOneSet, IsBefore, IsEarlier, IsSound, IsSoundPattern, ReferToNone, argument_names, depth, given_names, pattern_position, positions_of}
+use Rattle.dt_forms.specs.Sound.{AreSoundValues, FormatHasMasks, GivesArguments, HasMasks, HaveOneSet, IsBefore, IsEarlier, IsSound, IsSoundPattern, argument_names, depth, given_names, pattern_position, positions_of}
 use Rattle.dt_forms.specs.Trees.{one, items_from, items_of, numbers_of, numbers_from}
 use Rattle.dt_forms.specs.View.{pattern_seen}
 use Rattle.dt_forms.proofs.Additions.{IsSoundFormat, IsSoundOf, members_at, set_at_format}
@@ -154,7 +154,6 @@ record AreSoundParts (width : ℕ) (d : Definitions) : Type 0 where
   one_set : AllPairs (HaveOneSet d.formats) d.patterns
   values : All (GivesArguments d.sets d.formats) d.patterns
   format_values : All (λ f. AreSoundValues width f.values) d.formats
-  references : All (λ f. ReferToNone f.values) d.formats
   pattern_values : All (λ p. p.values ≡ []) d.patterns
 
 -- a pattern's format gives what its set has
@@ -191,7 +190,6 @@ parts_sound options texts decode few short none =
       one_set = sound.one_set;
       values = λ k d below. arguments_given width scope.sets scope.formats (get_or scope.patterns k d) sound.formats (sound.patterns k d below);
       format_values = λ k d below. (sound.formats k d below).values;
-      references = λ k d below. (sound.formats k d below).references;
       pattern_values = λ k d below. (sound.patterns k d below).values;
     }
 
@@ -223,7 +221,6 @@ sound_model options texts model decode few short none h =
       one_set = parts.one_set;
       values = parts.values;
       format_values = parts.format_values;
-      references = parts.references;
       pattern_values = parts.pattern_values;
       entry_positions = subst (λ (bs : List Position). AllPairs IsEarlier bs) (sym (ap (positions_of model.patterns) ones ∙ positions_of_patterns model.patterns)) (positions_rise model.patterns parts.positions);
     }

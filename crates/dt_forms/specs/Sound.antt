@@ -1,20 +1,21 @@
 -- What holds of every model that is read of pattern files, and of every pattern of their flat list.
-use Rattle.std.specs.Prelude.{◌≡◌, ◌≢◌, ◌+◌, ◌<◌, ◌≤◌, ◌^◌, ◌⊎◌, ℕ, ℤ, pos, negsuc, max, bit_and}
+use Rattle.std.specs.Prelude.{◌≡◌, ◌≢◌, ◌-◌, ◌+◌, ◌<◌, ◌≤◌, ◌^◌, ◌⊎◌, ℕ, max, bit_and, ℤ, pos, neg_ℤ, ◌≤ℤ◌}
 use Rattle.std.specs.Prelude.{List, [], ◌∷◌, ◌++◌, length, get_or, map, All, AllPairs, IsPermutation}
 use Rattle.dt_values.specs.Names.{IsName}
 use Rattle.dt_values.specs.Widths.{width_bits}
 use Rattle.dt_lines.specs.declared.line.Position.{Position}
+use Rattle.dt_fields.specs.declared.field.FieldDef.{FieldDef}
+use Rattle.dt_fields.specs.declared.segment.Segment.{Segment}
+use Rattle.dt_fields.specs.declared.segment.Segment.TheVariants as segment
 use Rattle.dt_fields.specs.declared.set.SetDef.{SetDef}
 use Rattle.dt_forms.specs.declared.form.Format.{Format}
 use Rattle.dt_forms.specs.declared.form.Pattern.{Pattern}
 use Rattle.dt_forms.specs.declared.model.Model.{Model}
 use Rattle.dt_forms.specs.declared.reader.TheConstants.{MOST_PATTERNS}
-use Rattle.dt_fields.specs.SoundFields.{IsSoundField}
-use Rattle.dt_fields.specs.SoundSets.{IsSoundSet}
-use Rattle.dt_fields.specs.declared.segment.Segment.{Segment}
-use Rattle.dt_fields.specs.declared.segment.Segment.TheVariants.{Bits, Named}
 use Rattle.dt_forms.specs.declared.value.FieldValue.{FieldValue}
 use Rattle.dt_forms.specs.declared.value.FieldValue.TheVariants.{Field, Constant}
+use Rattle.dt_fields.specs.SoundFields.{IsSoundField}
+use Rattle.dt_fields.specs.SoundSets.{IsSoundSet}
 use Rattle.dt_forms.specs.PatternLines.{set_number}
 use Rattle.dt_forms.specs.Patterns.{FlatPattern, GivenValues, position_of}
 use Rattle.dt_forms.specs.Trees.{Item, one, overlap, exclusive, Cluster, cluster, Items, no_item, item}
@@ -89,29 +90,26 @@ given_names formats p = map (λ v. v.0) (given_values formats p)
 abbrev pub GivesArguments : List SetDef → List Format → Pattern → Type 0
 GivesArguments sets formats p = IsPermutation (given_names formats p) (argument_names sets formats p)
 
-abbrev pub IsInRange : ℤ → Type 0
-IsInRange (pos n) = n < 2 ^ 32
-IsInRange (negsuc n) = n < 2 ^ 31
+-- bits of the word
+abbrev pub IsOfWord : Segment → Type 0
+IsOfWord (segment.Bits place length signed) = Unit {0}
+IsOfWord (segment.Named name length signed) = ⊥
 
--- a field whose line breaks no rule, and a constant in its range: from -2^31 to 2^32 - 1
+-- no segment names an argument
+abbrev pub HasNoReference : FieldDef → Type 0
+HasNoReference field = All IsOfWord field.segments
+
+-- from -2^31 to 2^32 - 1
+abbrev pub IsSoundConstant : ℤ → Type 0
+IsSoundConstant z = (neg_ℤ (pos (2 ^ 31)) ≤ℤ z) × (z ≤ℤ pos (2 ^ 32 - 1))
+
+-- what an argument gets in words of so many bits: a sound field without references, or a constant in its range
 abbrev pub IsSoundValue : ℕ → FieldValue → Type 0
-IsSoundValue width (Field field) = IsSoundField width field
-IsSoundValue width (Constant z) = IsInRange z
+IsSoundValue width (Field field) = IsSoundField width field × HasNoReference field
+IsSoundValue width (Constant z) = IsSoundConstant z
 
 abbrev pub AreSoundValues : ℕ → GivenValues → Type 0
 AreSoundValues width values = All (λ v. IsSoundValue width v.1) values
-
--- a field that refers to no other argument
-abbrev pub IsOfWord : Segment → Type 0
-IsOfWord (Bits place length signed) = Unit {0}
-IsOfWord (Named name length signed) = ⊥
-
-abbrev pub RefersToNone : FieldValue → Type 0
-RefersToNone (Field field) = All IsOfWord field.segments
-RefersToNone (Constant z) = Unit {0}
-
-abbrev pub ReferToNone : GivenValues → Type 0
-ReferToNone values = All (λ v. RefersToNone v.1) values
 
 -- patterns of one name have one set
 abbrev pub HaveOneSet : List Format → Pattern → Pattern → Type 0
@@ -128,7 +126,7 @@ pub record IsSoundPattern (width : ℕ) (p : FlatPattern) : Type 0 where
   pub file_below : p.file < 2 ^ 16
   pub line_below : p.line < 2 ^ 32
 
--- No field refers to another argument yet, and no pattern has a value of its own.
+-- No pattern gives a value in its own line yet, and no field refers to an argument.
 pub record IsSound (model : Model) : Type 0 where
   pub masks : All (HasMasks (width_bits model.width)) model.patterns
   pub format_masks : All (FormatHasMasks (width_bits model.width)) model.formats
@@ -148,6 +146,5 @@ pub record IsSound (model : Model) : Type 0 where
   pub one_set : AllPairs (HaveOneSet model.formats) model.patterns
   pub values : All (GivesArguments model.sets model.formats) model.patterns
   pub format_values : All (λ f. AreSoundValues (width_bits model.width) f.values) model.formats
-  pub references : All (λ f. ReferToNone f.values) model.formats
   pub pattern_values : All (λ p. p.values ≡ []) model.patterns
   pub entry_positions : AllPairs IsEarlier (positions_of model.patterns (items_of model.entries))

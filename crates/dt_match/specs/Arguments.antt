@@ -1,5 +1,5 @@
 -- What the arguments of a pattern hold on a word (docs/LANGUAGE.md, "What a decoder does").
-use Rattle.std.specs.Prelude.{ℕ, zero, suc, List, [], ◌∷◌, length, map, ℤ, pos, Option, Some, None, if◌then◌else◌}
+use Rattle.std.specs.Prelude.{ℕ, zero, suc, List, [], ◌∷◌, length, ℤ, pos, Option, Some, None, if◌then◌else◌}
 use Rattle.dt_values.specs.Stored.{stored}
 use Rattle.dt_values.specs.Types.{is_text}
 use Rattle.dt_values.specs.declared.ctype.CType.{CType}

@@ -1,7 +1,7 @@
 -- What a field is on a word (docs/devel/decodetree.rst, "Fields").
 use Rattle.std.specs.Prelude.{ℕ, ◌*◌, ◌+◌, ◌^◌, Bool, List, [], ◌∷◌, ℤ, pos, Option, Some, None, if◌then◌else◌}
 use Rattle.dt_values.specs.BitFields.{bits_at, signed, residue}
-use Rattle.dt_fields.specs.Segments.{segment_length, total_length}
+use Rattle.dt_fields.specs.Segments.{total_length}
 use Rattle.dt_fields.specs.declared.field.FieldDef.{FieldDef}
 use Rattle.dt_fields.specs.declared.segment.Segment.{Segment}
 use Rattle.dt_fields.specs.declared.segment.Segment.TheVariants.{Bits, Named}
@@ -12,13 +12,13 @@ Answers = List ℕ → Option ℤ → ℤ
 
 -- an `s` stands before the segment's length
 abbrev pub has_sign : Segment → Bool
-has_sign (Bits pos length signed) = signed
-has_sign (Named name length signed) = signed
+has_sign (Bits place length sign) = sign
+has_sign (Named name length sign) = sign
 
 -- bits of the word, or the low bits of what the named argument holds
 abbrev pub segment_bits : (List ℕ → ℤ) → ℕ → Segment → ℕ
-segment_bits held word (Bits pos length signed) = bits_at word pos length
-segment_bits held word (Named name length signed) = residue length (held name)
+segment_bits held word (Bits place length sign) = bits_at word place length
+segment_bits held word (Named name length sign) = residue length (held name)
 
 -- the bits of segments as one number, the first the most significant
 abbrev pub joined : (List ℕ → ℤ) → ℕ → List Segment → ℕ

@@ -1,5 +1,6 @@
 //! Runs of the whole command, by subject. The expected texts are those of the documents.
 
+mod arguments;
 mod definitions;
 mod outcomes;
 mod refusals;

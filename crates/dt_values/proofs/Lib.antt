@@ -1,1 +1,4 @@
 pub mod NameText
+pub mod Parts
+pub mod StoredRanges
+pub mod ArgumentItems

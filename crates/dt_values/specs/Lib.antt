@@ -3,3 +3,5 @@ pub mod Types
 pub mod Widths
 pub mod BitFields
 pub mod Stored
+pub mod Ranges
+pub mod Held

@@ -40,7 +40,7 @@ fn files_are_refused_by_the_first_rule_of_their_least_broken_line(
         ),
         (b"\t# a\n", b"t:1: error: L1 indentation: 8\n"),
         (b"*a 0x\n", b"t:1: error: L7 invalid name: *a\n"),
-        (b"a 0000000000000000 r:5\n", b"t:1: error: N2 not built\n"),
+        (b"a 0000000000000000 r=5\n", b"t:1: error: N2 not built\n"),
         (b"@f ----\n", b"t:1: error: N2 not built\n"),
         (b"{\n", b"t:1: error: N2 not built\n"),
         (b"*a 0\n", b"t:1: error: L7 invalid name: *a\n"),
@@ -49,7 +49,7 @@ fn files_are_refused_by_the_first_rule_of_their_least_broken_line(
             b"t:1: error: L7 invalid name: \xff-\x80\n",
         ),
         (
-            b"a 00000000000000000000000000000000\na 00000000000000000000000000000000 &x\n",
+            b"a 00000000000000000000000000000000\na 00000000000000000000000000000000 @x\n",
             b"t:2: error: N2 not built\n",
         ),
         (
@@ -57,7 +57,7 @@ fn files_are_refused_by_the_first_rule_of_their_least_broken_line(
             b"t:3: error: G9 wrong bit count: 1\n",
         ),
         (
-            b" a 0x 00000000000000000000000000000000\n",
+            b" a @x 00000000000000000000000000000000\n",
             b"t:1: error: N2 not built\n",
         ),
     ];

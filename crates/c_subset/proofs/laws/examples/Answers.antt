@@ -1,8 +1,9 @@
 use Rattle.std.proofs.Common.{refl}
+use Rattle.std.specs.Fmt.{digits}
 use Rattle.c_subset.specs.Tokens.{read}
 use Rattle.dt_text.specs.Hexadecimal.{hex}
 use Rattle.c_subset.specs.Programs.{spelling}
-use Rattle.c_subset.proofs.ExampleRules.{empty_keeps, nop_keeps, arguments_keep}
+use Rattle.c_subset.proofs.ExampleRules.{empty_keeps, nop_keeps, arguments_keep, branch_keeps, assigned_keeps}
 use Rattle.c_subset.proofs.laws.examples.Goals as goal
 
 pub returns-clause-tokens : goal.returns-clause-tokens
@@ -20,3 +21,11 @@ returns-clause-nop c = record { rules = nop_keeps; tokens = refl }
 pub returns-clause-arguments : goal.returns-clause-arguments
 unfolding read spelling hex
 returns-clause-arguments c = record { rules = arguments_keep; tokens = refl }
+
+pub returns-clause-branch : goal.returns-clause-branch
+unfolding read spelling hex digits
+returns-clause-branch c = record { rules = branch_keeps; tokens = refl }
+
+pub returns-clause-assigned : goal.returns-clause-assigned
+unfolding read spelling hex digits
+returns-clause-assigned c = record { rules = assigned_keeps; tokens = refl }

@@ -1,4 +1,4 @@
-use Rattle.c_subset.proofs.Single.{law_text_spells_one}
+use Rattle.c_subset.proofs.Programs.{law_text_spells_one}
 use Rattle.c_subset.proofs.laws.law_text_spells_one.Goals as goal
 
 pub returns : goal.returns

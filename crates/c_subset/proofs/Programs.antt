@@ -1,36 +1,58 @@
 -- No two programs are spelled alike.
 use Rattle.std.proofs.Common.{◌≡◌, ℕ, ◌^◌, List, [], ◌∷◌, ◌++◌, get_or, Bool, true, false, Option, Some, None, refl, sym, ap, ◌∙◌, subst, arith, append_assoc}
 use Rattle.std.specs.Prelude.{codes, flat_map, IsSome, ◌↔◌, ◌≢◌}
+use Rattle.std.specs.List.{All}
 use Rattle.std.proofs.lemmas.List.{append_cancel_left, append_cancel_right}
 use Rattle.dt_values.specs.declared.width.Width.{Width}
 use Rattle.dt_values.specs.declared.width.Width.TheVariants.{W16, W32, W64}
 use Rattle.dt_values.specs.Widths.{width_bits}
 use Rattle.dt_fields.specs.declared.set.SetDef.{SetDef}
+use Rattle.c_subset.specs.Marks.{close_brace}
 use Rattle.c_subset.specs.Tokens.{Token, word, mark}
+use Rattle.c_subset.specs.Exprs.{Assignment}
+use Rattle.c_subset.specs.ExprSpelling.{assignment_spelled}
 use Rattle.c_subset.specs.Programs.{Name, Pattern, Extraction, Prefix, Program, set_spelled, pattern_spelled, prototype_spelled, static_spelled, extract_spelled, first_parameter, word_type, stmts_spelled, union_set_spelled, union_spelled, decoder_head_spelled, decoder_end_spelled, decoder_spelled, prefix_of, spelling}
-use Rattle.c_subset.specs.Keeps.{StmtsBelow, KeepsRules}
+use Rattle.dt_values.specs.Names.{IsName}
+use Rattle.c_subset.specs.Keeps.{SetKeeps, PatternNamed, ExtractionKeeps, StmtsBelow, KeepsRules}
 use Rattle.c_subset.specs.Spells.{Spells}
-use Rattle.c_subset.proofs.Once.{first_word, differ, stmts_once}
-use Rattle.c_subset.proofs.Parts.{behind_arg, mark_no_word, AllAlike, parts_once, all_same}
-use Rattle.c_subset.proofs.Sets.{AlikeSets, set_once, sets_back}
-
-word_of : (v w : List ℕ) → word v ≡ word w → v ≡ w
-word_of v w e = cc
+use Rattle.c_subset.proofs.Apart.{word_of, first_word, differ, mark_no_word}
+use Rattle.c_subset.proofs.Parts.{behind_arg, Same, AllAlike, parts_once, same_parts}
+use Rattle.c_subset.proofs.Sets.{set_once}
+use Rattle.c_subset.proofs.Assignments.{assignments_once}
+use Rattle.c_subset.proofs.Statements.{stmts_once}
 
 second : (x y z : Token) (a b : List Token) → z ∷ x ∷ a ≡ z ∷ y ∷ b → x ≡ y
 second x y z a b e = cc
 
--- an extraction, where the decoder's names and the widths may still differ
-abbrev pub AlikeExtracts : Name → Name → Extraction → Extraction → Type 0
-AlikeExtracts d e x y = (d ++ codes "_extract_" ++ x.format ≡ e ++ codes "_extract_" ++ y.format) × (x.set ≡ y.set)
+-- the type of a word says its width
+type_once : (v w : Width) → word_type v ≡ word_type w → v ≡ w
+type_once W16 W16 e = refl
+type_once W16 W32 e = absurd (differ (codes "uint16_t") (codes "uint32_t") refl e)
+type_once W16 W64 e = absurd (differ (codes "uint16_t") (codes "uint64_t") refl e)
+type_once W32 W16 e = absurd (differ (codes "uint32_t") (codes "uint16_t") refl e)
+type_once W32 W32 e = refl
+type_once W32 W64 e = absurd (differ (codes "uint32_t") (codes "uint64_t") refl e)
+type_once W64 W16 e = absurd (differ (codes "uint64_t") (codes "uint16_t") refl e)
+type_once W64 W32 e = absurd (differ (codes "uint64_t") (codes "uint32_t") refl e)
+type_once W64 W64 e = refl
 
-extract_tail : (v w x y t u : List ℕ) (a b : List Token) → word (codes "static") ∷ word (codes "void") ∷ word v ∷ first_parameter (word x ∷ mark 42 ∷ word (codes "a") ∷ mark 44 ∷ word t ∷ word (codes "insn") ∷ mark 41 ∷ mark 123 ∷ mark 125 ∷ a) ≡ word (codes "static") ∷ word (codes "void") ∷ word w ∷ first_parameter (word y ∷ mark 42 ∷ word (codes "a") ∷ mark 44 ∷ word u ∷ word (codes "insn") ∷ mark 41 ∷ mark 123 ∷ mark 125 ∷ b) → (v ≡ w) × (x ≡ y) × (a ≡ b)
-extract_tail v w x y t u a b e = ((cc), (cc), (cc))
+-- an extraction, where the decoder's names may still differ
+abbrev AlikeExtracts : Name → Name → Extraction → Extraction → Type 0
+AlikeExtracts d e x y = (d ++ codes "_extract_" ++ x.format ≡ e ++ codes "_extract_" ++ y.format) × (x.set ≡ y.set) × (x.assigns ≡ y.assigns)
 
-extract_once : (v w : Width) (d e : Name) (x y : Extraction) (a b : List Token) → extract_spelled v d x ++ a ≡ extract_spelled w e y ++ b → AlikeExtracts d e x y × (a ≡ b)
-extract_once v w d e x y a b is =
-    let q = extract_tail (d ++ codes "_extract_" ++ x.format) (e ++ codes "_extract_" ++ y.format) (codes "arg_" ++ x.set) (codes "arg_" ++ y.set) (word_type v) (word_type w) a b is in
-    ((q.0, behind_arg x.set y.set q.1), q.2)
+extract_tail : (v w x y t u : List ℕ) (a b : List Token) → word (codes "static") ∷ word (codes "void") ∷ word v ∷ first_parameter (word x ∷ mark 42 ∷ word (codes "a") ∷ mark 44 ∷ word t ∷ word (codes "insn") ∷ mark 41 ∷ mark 123 ∷ a) ≡ word (codes "static") ∷ word (codes "void") ∷ word w ∷ first_parameter (word y ∷ mark 42 ∷ word (codes "a") ∷ mark 44 ∷ word u ∷ word (codes "insn") ∷ mark 41 ∷ mark 123 ∷ b) → (v ≡ w) × (x ≡ y) × (t ≡ u) × (a ≡ b)
+extract_tail v w x y t u a b e = ((cc), (cc), (cc), (cc))
+
+-- its assignments and the closing brace
+abbrev extract_end : Width → List Assignment → List Token
+extract_end w assigns = flat_map (assignment_spelled w) assigns ++ close_brace ∷ []
+
+extract_once : (v w : Width) (d e : Name) (x y : Extraction) (a b : List Token) → ExtractionKeeps x → ExtractionKeeps y → extract_spelled v d x ++ a ≡ extract_spelled w e y ++ b → AlikeExtracts d e x y × (a ≡ b)
+extract_once v w d e x y a b h k is =
+    let q = extract_tail (d ++ codes "_extract_" ++ x.format) (e ++ codes "_extract_" ++ y.format) (codes "arg_" ++ x.set) (codes "arg_" ++ y.set) (word_type v) (word_type w) (extract_end v x.assigns ++ a) (extract_end w y.assigns ++ b) is in
+    let width = type_once v w q.2 in
+    let assigns = assignments_once v x.assigns y.assigns a b h.assigns k.assigns (q.3 ∙ ap (λ u. extract_end u y.assigns ++ b) (sym width)) in
+    ((q.0, behind_arg x.set y.set q.1, assigns.same), assigns.rest)
 
 -- a prototype: its names, whether it is static, and the prefix
 prototype_tail : (n m v w : List ℕ) (a b : List Token) → word v ∷ first_parameter (word n ∷ mark 42 ∷ word (codes "a") ∷ mark 41 ∷ mark 59 ∷ a) ≡ word w ∷ first_parameter (word m ∷ mark 42 ∷ word (codes "a") ∷ mark 41 ∷ mark 59 ∷ b) → (v ≡ w) × (a ≡ b)
@@ -45,7 +67,7 @@ static_once false false x y e = (refl, (cc))
 typedef_tail : (s t n m : List ℕ) (a b : List Token) → word (codes "typedef") ∷ word s ∷ word n ∷ mark 59 ∷ a ≡ word (codes "typedef") ∷ word t ∷ word m ∷ mark 59 ∷ b → (s ≡ t) × (n ≡ m) × (a ≡ b)
 typedef_tail s t n m a b e = ((cc), (cc), (cc))
 
-abbrev pub AlikePatterns : Prefix → Prefix → Pattern → Pattern → Type 0
+abbrev AlikePatterns : Prefix → Prefix → Pattern → Pattern → Type 0
 AlikePatterns x y n m = (n ≡ m) × (x ≡ y)
 
 same_pattern : (n m : Pattern) → n.name ≡ m.name → n.set ≡ m.set → n ≡ m
@@ -54,8 +76,8 @@ same_pattern n m h k = λ i. record { name = h i; set = k i }
 same_prefix : (x y : Prefix) → x.name ≡ y.name → x.is_static ≡ y.is_static → x ≡ y
 same_prefix x y h k = λ i. record { name = h i; is_static = k i }
 
-pattern_once : (x y : Prefix) (n m : Pattern) (a b : List Token) → pattern_spelled x n ++ a ≡ pattern_spelled y m ++ b → AlikePatterns x y n m × (a ≡ b)
-pattern_once x y n m a b is =
+pattern_once : (x y : Prefix) (n m : Pattern) (a b : List Token) → PatternNamed n → PatternNamed m → pattern_spelled x n ++ a ≡ pattern_spelled y m ++ b → AlikePatterns x y n m × (a ≡ b)
+pattern_once x y n m a b h k is =
     let q = typedef_tail (codes "arg_" ++ n.set) (codes "arg_" ++ m.set) (codes "arg_" ++ n.name) (codes "arg_" ++ m.name) ((static_spelled x.is_static ++ prototype_spelled x.name n.name) ++ a) ((static_spelled y.is_static ++ prototype_spelled y.name m.name) ++ b) is in
     let r = static_once x.is_static y.is_static _ _ (sym (append_assoc (static_spelled x.is_static) (prototype_spelled x.name n.name) a) ∙ q.2 ∙ append_assoc (static_spelled y.is_static) (prototype_spelled y.name m.name) b) in
     let t = prototype_tail (codes "arg_" ++ n.name) (codes "arg_" ++ m.name) (x.name ++ codes "_" ++ n.name) (y.name ++ codes "_" ++ m.name) a b r.1 in
@@ -88,17 +110,6 @@ extract_stops : (w : Width) (d : Name) (b : Bool) (a : List Token) (v : Width) (
 extract_stops w d b a v f x c e = void_no_decoder w d b a _ e
 
 -- the decoder's head
-type_once : (v w : Width) → word_type v ≡ word_type w → v ≡ w
-type_once W16 W16 e = refl
-type_once W16 W32 e = absurd (differ (codes "uint16_t") (codes "uint32_t") refl e)
-type_once W16 W64 e = absurd (differ (codes "uint16_t") (codes "uint64_t") refl e)
-type_once W32 W16 e = absurd (differ (codes "uint32_t") (codes "uint16_t") refl e)
-type_once W32 W32 e = refl
-type_once W32 W64 e = absurd (differ (codes "uint32_t") (codes "uint64_t") refl e)
-type_once W64 W16 e = absurd (differ (codes "uint64_t") (codes "uint16_t") refl e)
-type_once W64 W32 e = absurd (differ (codes "uint64_t") (codes "uint32_t") refl e)
-type_once W64 W64 e = refl
-
 head_tail : (d e t u : List ℕ) (a b : List Token) → word d ∷ first_parameter (word t ∷ word (codes "insn") ∷ mark 41 ∷ mark 123 ∷ a) ≡ word e ∷ first_parameter (word u ∷ word (codes "insn") ∷ mark 41 ∷ mark 123 ∷ b) → (d ≡ e) × (t ≡ u) × (a ≡ b)
 head_tail d e t u a b is = ((cc), (cc), (cc))
 
@@ -124,15 +135,15 @@ union_tail a b e = cc
 ends_tail : (a b : List Token) → mark 125 ∷ word (codes "u") ∷ mark 59 ∷ a ≡ mark 125 ∷ word (codes "u") ∷ mark 59 ∷ b → a ≡ b
 ends_tail a b e = cc
 
-part_once : (s t : Name) (a b : List Token) → union_set_spelled s ++ a ≡ union_set_spelled t ++ b → (s ≡ t) × (a ≡ b)
-part_once s t a b e = let q = part_tail (codes "arg_" ++ s) (codes "f_" ++ s) (codes "arg_" ++ t) (codes "f_" ++ t) a b e in (behind_arg s t q.0, q.1)
+part_once : (s t : Name) (a b : List Token) → IsName s → IsName t → union_set_spelled s ++ a ≡ union_set_spelled t ++ b → Same s t a b
+part_once s t a b h k e = let q = part_tail (codes "arg_" ++ s) (codes "f_" ++ s) (codes "arg_" ++ t) (codes "f_" ++ t) a b e in record { same = behind_arg s t q.0; rest = q.1 }
 
-union_once : (ns : List Pattern) (us vs : List Name) (x y : List Token) → union_spelled ns us ++ x ≡ union_spelled ns vs ++ y → (ns ≢ [] → us ≡ vs) × (x ≡ y)
-union_once [] us vs x y is = ((λ h. absurd (h refl)), is)
-union_once (n ∷ ns) us vs x y is =
+union_once : (ns : List Pattern) (us vs : List Name) (x y : List Token) → All IsName us → All IsName vs → union_spelled ns us ++ x ≡ union_spelled ns vs ++ y → (ns ≢ [] → us ≡ vs) × (x ≡ y)
+union_once [] us vs x y h k is = ((λ some. absurd (some refl)), is)
+union_once (n ∷ ns) us vs x y h k is =
     let ends : List Token = mark 125 ∷ word (codes "u") ∷ mark 59 ∷ [] in
-    let r = parts_once union_set_spelled union_set_spelled (λ s t. s ≡ t) part_once us vs (ends ++ x) (ends ++ y) (λ s c k. mark_no_word _ _ _ _ k) (λ s c k. mark_no_word _ _ _ _ k) (sym (append_assoc (flat_map union_set_spelled us) ends x) ∙ union_tail _ _ is ∙ append_assoc (flat_map union_set_spelled vs) ends y) in
-    ((λ h. all_same us vs r.0), ends_tail x y r.1)
+    let r = same_parts IsName union_set_spelled part_once us vs (ends ++ x) (ends ++ y) h k (λ s c e. mark_no_word _ _ _ _ e) (λ s c e. mark_no_word _ _ _ _ e) (sym (append_assoc (flat_map union_set_spelled us) ends x) ∙ union_tail _ _ is ∙ append_assoc (flat_map union_set_spelled vs) ends y) in
+    ((λ some. r.same), ends_tail x y r.rest)
 
 union_back : (ns : List Pattern) (us vs : List Name) → (ns ≢ [] → us ≡ vs) → (ns ≡ [] → us ≡ []) → (ns ≡ [] → vs ≡ []) → us ≡ vs
 union_back [] us vs h k l = k refl ∙ sym (l refl)
@@ -146,7 +157,7 @@ extracts_back d e (x ∷ xs) [] is h = absurd h
 extracts_back d e (x ∷ xs) (y ∷ ys) is h =
     let more = extracts_back d e xs ys is h.1 in
     let format = append_cancel_left (e ++ codes "_extract_") x.format y.format (ap (λ l. l ++ codes "_extract_" ++ x.format) (sym is) ∙ h.0.0) in
-    λ i. record { format = format i; set = h.0.1 i } ∷ more i
+    λ i. record { format = format i; set = h.0.1 i; assigns = h.0.2 i } ∷ more i
 
 patterns_back : (x y : Prefix) (ns ms : List Pattern) → AllAlike (AlikePatterns x y) ns ms → ns ≡ ms
 patterns_back x y [] [] l = refl
@@ -170,12 +181,12 @@ unfolding spelling
 programs_once p q h k is =
     let x = prefix_of p.prefix in
     let y = prefix_of q.prefix in
-    let sets = parts_once set_spelled set_spelled AlikeSets set_once p.sets q.sets _ _ (set_stops x p.patterns p.width p.decoder p.extracts p.decoder_static _) (set_stops y q.patterns q.width q.decoder q.extracts q.decoder_static _) is in
-    let patterns = parts_once (pattern_spelled x) (pattern_spelled y) (AlikePatterns x y) (pattern_once x y) p.patterns q.patterns _ _ (pattern_stops p.width p.decoder p.extracts p.decoder_static _ y) (pattern_stops q.width q.decoder q.extracts q.decoder_static _ x) sets.1 in
-    let extracts = parts_once (extract_spelled p.width p.decoder) (extract_spelled q.width q.decoder) (AlikeExtracts p.decoder q.decoder) (extract_once p.width q.width p.decoder q.decoder) p.extracts q.extracts (decoder_spelled p) (decoder_spelled q) (extract_stops p.width p.decoder p.decoder_static _ q.width q.decoder) (extract_stops q.width q.decoder q.decoder_static _ p.width p.decoder) patterns.1 in
+    let sets = same_parts SetKeeps set_spelled set_once p.sets q.sets _ _ h.sets_keep k.sets_keep (set_stops x p.patterns p.width p.decoder p.extracts p.decoder_static _) (set_stops y q.patterns q.width q.decoder q.extracts q.decoder_static _) is in
+    let patterns = parts_once PatternNamed (pattern_spelled x) (pattern_spelled y) (AlikePatterns x y) (pattern_once x y) p.patterns q.patterns _ _ h.patterns_named k.patterns_named (pattern_stops p.width p.decoder p.extracts p.decoder_static _ y) (pattern_stops q.width q.decoder q.extracts q.decoder_static _ x) sets.rest in
+    let extracts = parts_once ExtractionKeeps (extract_spelled p.width p.decoder) (extract_spelled q.width q.decoder) (AlikeExtracts p.decoder q.decoder) (extract_once p.width q.width p.decoder q.decoder) p.extracts q.extracts (decoder_spelled p) (decoder_spelled q) h.extracts_keep k.extracts_keep (extract_stops p.width p.decoder p.decoder_static _ q.width q.decoder) (extract_stops q.width q.decoder q.decoder_static _ p.width p.decoder) patterns.1 in
     let head = head_once p.width q.width p.decoder q.decoder p.decoder_static q.decoder_static _ _ extracts.1 in
     let same_patterns = patterns_back x y p.patterns q.patterns patterns.0 in
-    let union = union_once p.patterns p.union_sets q.union_sets _ _ (head.rest ∙ ap (λ ns. union_spelled ns q.union_sets ++ (stmts_spelled q.width q.decoder y.name q.body ++ decoder_end_spelled)) (sym same_patterns)) in
+    let union = union_once p.patterns p.union_sets q.union_sets _ _ h.union_sets_named k.union_sets_named (head.rest ∙ ap (λ ns. union_spelled ns q.union_sets ++ (stmts_spelled q.width q.decoder y.name q.body ++ decoder_end_spelled)) (sym same_patterns)) in
     let prefix = prefix_back p.prefix q.prefix p.patterns h.prefix_with_patterns (subst (λ ns. IsSome q.prefix ↔ (ns ≢ [])) (sym same_patterns) k.prefix_with_patterns) (one_prefix x y p.patterns q.patterns patterns.0) in
     let bodies : stmts_spelled q.width q.decoder y.name p.body ++ decoder_end_spelled ≡ stmts_spelled q.width q.decoder y.name q.body ++ decoder_end_spelled =
     ap (λ w. stmts_spelled w q.decoder y.name p.body ++ decoder_end_spelled) (sym head.width)
@@ -183,11 +194,10 @@ programs_once p q h k is =
     ∙ ap (λ z. stmts_spelled p.width p.decoder (prefix_of z).name p.body ++ decoder_end_spelled) (sym prefix)
     ∙ union.1 in
     let below = subst (λ w. StmtsBelow (2 ^ width_bits w) p.body) head.width h.body_below in
-    let body = stmts_once q.width q.decoder y.name p.body q.body decoder_end_spelled decoder_end_spelled below k.body_below refl refl bodies in
-    let set_list = sets_back p.sets q.sets h.sets_keep k.sets_keep sets.0 in
+    let body = stmts_once q.width q.decoder y.name p.body q.body decoder_end_spelled decoder_end_spelled h.body_keeps k.body_keeps below k.body_below refl refl bodies in
     let extract_list = extracts_back p.decoder q.decoder p.extracts q.extracts head.decoder extracts.0 in
     let union_list = union_back p.patterns p.union_sets q.union_sets union.0 h.union_with_patterns (λ e. k.union_with_patterns (sym same_patterns ∙ e)) in
-    λ i. record { width = head.width i; sets = set_list i; prefix = prefix i; patterns = same_patterns i; extracts = extract_list i; decoder = head.decoder i; decoder_static = head.is_static i; union_sets = union_list i; body = body.same i }
+    λ i. record { width = head.width i; sets = sets.same i; prefix = prefix i; patterns = same_patterns i; extracts = extract_list i; decoder = head.decoder i; decoder_static = head.is_static i; union_sets = union_list i; body = body.same i }
 
 some_same : (x y : List Token) → Some x ≡ Some y → x ≡ y
 some_same x y e = cc

@@ -1,0 +1,6 @@
+pub mod BitFields
+pub mod Folding
+pub mod Forms
+pub mod Lines
+pub mod Signs
+pub mod WordEnds
