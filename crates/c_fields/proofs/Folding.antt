@@ -22,9 +22,9 @@ use Rattle.c_subset.specs.Exprs.{Term, deposit, cast}
 use Rattle.dt_match.specs.Arguments.{value_of}
 use Rattle.dt_match.specs.FieldValues.{has_sign, segment_bits, joined, raw_value, answered, field_value}
 use Rattle.c_eval.specs.Meaning.{Place, helper_bits, lies_in, guarded, extracted, extract_value, deposit_value, value_at}
-use Rattle.c_fields.specs.Values.{IsSoundValue, ShowsValue}
+use Rattle.c_fields.specs.Values.{KeepsValueRules, ShowsValue}
 use Rattle.c_fields.specs.Written.{segment_term, folded, joined_term, applied_term, field_term, value_term, IsShown, Shows}
-use Rattle.c_fields.proofs.BitFields.{bits_below, residue_below, place_below}
+use Rattle.dt_values.proofs.Parts.{bits_below, residue_below, place_below}
 use Rattle.c_fields.proofs.Signs.{spread, residue_of_signed, signed_of_spread, spread_below, spread_low, spread_joined, residue_low}
 
 -- ---- bits that lie in a word
@@ -260,11 +260,11 @@ fits_helpers W64 = omega arith
 wider : (m n : ℕ) → m ≤ n → (s : Segment) → segment_end s ≤ m → segment_end s ≤ n
 wider m n h s inside = omega arith
 
-pub law : (w : Width) (set : Option (List ℕ)) (field : FieldDef) (held : List ℕ → ℤ) (at : Place)
+pub field_law : (w : Width) (set : Option (List ℕ)) (field : FieldDef) (held : List ℕ → ℤ) (at : Place)
     → IsSoundField (width_bits w) field → at.bits ≡ helper_bits w → at.word < 2 ^ width_bits w
     → Shows set at held field.segments
     → value_at at (field_term (helper_bits w) set field) ≡ Some (field_value at.answer held at.word field)
-law w set field held at sound e small shown =
+field_law w set field held at sound e small shown =
     let fits = fits_helpers w in
     let le : width_bits w ≤ at.bits = omega arith in
     let more : 2 ^ width_bits w ≤ 2 ^ at.bits = pow_mono le in
@@ -279,8 +279,8 @@ law w set field held at sound e small shown =
     })
 
 pub value_law : (w : Width) (set : Option (List ℕ)) (value : FieldValue) (held : List ℕ → ℤ) (at : Place)
-    → IsSoundValue (width_bits w) value → at.bits ≡ helper_bits w → at.word < 2 ^ width_bits w
+    → KeepsValueRules (width_bits w) value → at.bits ≡ helper_bits w → at.word < 2 ^ width_bits w
     → ShowsValue set at held value
     → value_at at (value_term (helper_bits w) set value) ≡ Some (value_of at.answer held at.word value)
-value_law w set (Field field) held at sound e small shown = law w set field held at sound e small shown
+value_law w set (Field field) held at sound e small shown = field_law w set field held at sound e small shown
 value_law w set (Constant z) held at sound e small shown = refl

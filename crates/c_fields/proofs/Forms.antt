@@ -1,5 +1,5 @@
 -- The expression of a sound value keeps the rules of the C subset, and helpers have room for it.
-use Rattle.std.proofs.Common.{◌≡◌, ℕ, ◌+◌, ◌<◌, ◌≤◌, ◌^◌, Bool, true, false, cond, List, [], ◌∷◌, Option, Some, None}
+use Rattle.std.proofs.Common.{◌≡◌, ℕ, ◌<◌, ◌≤◌, ◌^◌, Bool, true, false, cond, List, [], ◌∷◌, Option, Some, None}
 use Rattle.std.proofs.Common.{refl, arith, lit<}
 use Rattle.std.specs.Prelude.{IfSome, IsTrue, not}
 use Rattle.std.specs.List.{All}
@@ -18,11 +18,11 @@ use Rattle.dt_fields.specs.declared.segment.Segment.TheVariants.{Bits, Named}
 use Rattle.dt_forms.specs.declared.value.FieldValue.{FieldValue}
 use Rattle.dt_forms.specs.declared.value.FieldValue.TheVariants.{Field, Constant}
 use Rattle.c_subset.specs.Exprs.{Term, cast}
-use Rattle.c_subset.specs.ExprForms.{is_bits, is_function, HasForm, HasNames, SourceNamed, TermKeeps}
+use Rattle.c_subset.specs.ExprForms.{is_bits, is_function, SourceNamed, TermKeeps}
 use Rattle.dt_match.specs.FieldValues.{has_sign}
 use Rattle.c_eval.specs.Meaning.{helper_bits}
-use Rattle.c_fields.specs.Values.{AreNamed, HasRoom, IsSoundValue, IsValueNamed}
-use Rattle.c_fields.specs.Written.{source_of, segment_term, folded, several_term, joined_term, applied_term, field_term, value_term}
+use Rattle.c_fields.specs.Values.{AreNamed, HasRoom, KeepsValueRules, IsValueNamed}
+use Rattle.c_fields.specs.Written.{source_of, segment_term, folded, joined_term, applied_term, field_term, value_term}
 use Rattle.c_fields.proofs.Folding.{total_more, fits_helpers}
 
 -- what the segments of a field keep, where helpers have n bits
@@ -107,7 +107,7 @@ applied_keeps (Some name) (s ∷ ss) e named no_function k =
     record { form = (no_function, k.form); names = (c_name_is_name name named, k.names) }
 
 -- ---- at a width
-pub value_has_room : (w : Width) (value : FieldValue) → IsSoundValue (width_bits w) value → HasRoom (helper_bits w) value
+pub value_has_room : (w : Width) (value : FieldValue) → KeepsValueRules (width_bits w) value → HasRoom (helper_bits w) value
 value_has_room w (Field field) sound =
     let fits = fits_helpers w in
     let total = sound.total in
@@ -138,7 +138,7 @@ field_keeps w set field sound named =
     applied_keeps field.function field.segments (joined_term n set field.segments) sound.c_name
     (joined_no_function n set field.segments) (joined_keeps n set field.segments (few_helpers w) kept)
 
-pub value_keeps : (w : Width) (set : Option (List ℕ)) (value : FieldValue) → IsSoundValue (width_bits w) value
+pub value_keeps : (w : Width) (set : Option (List ℕ)) (value : FieldValue) → KeepsValueRules (width_bits w) value
     → IsValueNamed set value → TermKeeps (value_term (helper_bits w) set value)
 value_keeps w set (Field field) sound named = field_keeps w set field sound named
 value_keeps w set (Constant z) fits named = record { form = tt; names = fits }

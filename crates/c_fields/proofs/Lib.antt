@@ -1,4 +1,3 @@
-pub mod BitFields
 pub mod Folding
 pub mod Forms
 pub mod Lines

@@ -10,7 +10,7 @@ use Rattle.c_subset.specs.Exprs.{Source, insn, argument, Term, constant, segment
 use Rattle.c_subset.specs.ExprForms.{ArgumentNamed, SourceNamed, ConstantFits, HasNames}
 use Rattle.c_subset.specs.ExprSpelling.{helper_digits, extract_word, argument_spelled, source_spelled, constant_spelled, expr_spelled, assign_spelled}
 use Rattle.c_subset.specs.Marks.{open_round, close_round, semicolon, comma, minus, equals, dot, f_}
-use Rattle.c_subset.specs.Tokens.{Token, word, arrow, read, tokens_of}
+use Rattle.c_subset.specs.Tokens.{word, arrow, read, tokens_of}
 use Rattle.c_subset.proofs.Lexing.{Lexes, line_lexes, lexes_append, tokens_from}
 use Rattle.c_subset.proofs.Seeing.{see}
 use Rattle.c_subset.proofs.Words.{decimal_word_is, name_is_word}

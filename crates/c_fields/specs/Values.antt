@@ -16,9 +16,9 @@ abbrev pub OfValue : (FieldDef → Type 0) → (ℤ → Type 0) → FieldValue �
 OfValue P Q (Field field) = P field
 OfValue P Q (Constant z) = Q z
 
--- a sound field, or a constant of 64 bits with a sign
-abbrev pub IsSoundValue : ℕ → FieldValue → Type 0
-IsSoundValue width = OfValue (IsSoundField width) ConstantFits
+-- a field that keeps its rules, or a constant of 64 bits with a sign
+abbrev pub KeepsValueRules : ℕ → FieldValue → Type 0
+KeepsValueRules width = OfValue (IsSoundField width) ConstantFits
 
 -- the arguments that segments name, and their set, are names
 abbrev pub AreNamed : Option (List ℕ) → List Segment → Type 0

@@ -15,7 +15,7 @@ ghost use Rattle.dt_match.specs.FieldValues.{field_value};
 ghost use Rattle.c_eval.specs.Meaning.{Place, helper_bits, value_at};
 ghost use Rattle.c_fields.specs.Examples.{LineExamples, TermExamples, ValueExamples};
 ghost use Rattle.c_fields.specs.ExprLayout.{assign_line};
-ghost use Rattle.c_fields.specs.Values.{AreNamed, HasRoom, IsSoundValue, IsValueNamed, ShowsValue};
+ghost use Rattle.c_fields.specs.Values.{AreNamed, HasRoom, KeepsValueRules, IsValueNamed, ShowsValue};
 ghost use Rattle.c_fields.specs.Written.{Shows, field_term, value_term};
 
 /// The expression of a sound field has the field's value on each word, and is never stuck. The same of all values.
@@ -25,7 +25,7 @@ pub fn law_field_expression()
         → Shows set at held field.segments
         → value_at at (field_term (helper_bits w) set field) ≡ Some (field_value at.answer held at.word field) }
     ensures value { (w : Width) (set : Option (List ℕ)) (value : FieldValue) (held : List ℕ → ℤ) (at : Place)
-        → IsSoundValue (width_bits w) value → at.bits ≡ helper_bits w → at.word < 2 ^ width_bits w
+        → KeepsValueRules (width_bits w) value → at.bits ≡ helper_bits w → at.word < 2 ^ width_bits w
         → ShowsValue set at held value
         → value_at at (value_term (helper_bits w) set value) ≡ Some (value_of at.answer held at.word value) }
 {}
@@ -35,13 +35,13 @@ pub fn law_field_expression()
 pub fn law_expression_keeps_rules()
     ensures field { (w : Width) (set : Option (List ℕ)) (field : FieldDef) → IsSoundField (width_bits w) field
         → AreNamed set field.segments → TermKeeps (field_term (helper_bits w) set field) }
-    ensures value { (w : Width) (set : Option (List ℕ)) (value : FieldValue) → IsSoundValue (width_bits w) value
+    ensures value { (w : Width) (set : Option (List ℕ)) (value : FieldValue) → KeepsValueRules (width_bits w) value
         → IsValueNamed set value → TermKeeps (value_term (helper_bits w) set value) }
 {}
 
 /// A sound value has room in the helpers of its width, so that its line can be written.
 pub fn law_sound_value_has_room()
-    ensures { (w : Width) (value : FieldValue) → IsSoundValue (width_bits w) value
+    ensures { (w : Width) (value : FieldValue) → KeepsValueRules (width_bits w) value
         → HasRoom (helper_bits w) value }
 {}
 

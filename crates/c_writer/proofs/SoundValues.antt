@@ -22,7 +22,7 @@ constant_fits : (z : ℤ) → IsSoundConstant z → ConstantFits z
 constant_fits (pos n) h = omega (arith, ints, h.1)
 constant_fits (negsuc n) h = omega (arith, ints, h.0)
 
-sound_value : (width : ℕ) (given : FieldValue) → IsSoundValue width given → of_fields.IsSoundValue width given
+sound_value : (width : ℕ) (given : FieldValue) → IsSoundValue width given → of_fields.KeepsValueRules width given
 sound_value width (Field field) h = h.0
 sound_value width (Constant z) h = constant_fits z h
 

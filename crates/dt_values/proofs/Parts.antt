@@ -30,7 +30,7 @@ three_parts v s l =
 moved : (x s l : ℕ) → x < 2 ^ l → s + l ≤ 64 → x * 2 ^ s % 18446744073709551616 ≡ x * 2 ^ s
 moved x s l h f = shl_whole x l s 64 h (omega arith)
 
-place_below : (x s l b : ℕ) → x < 2 ^ l → b < 2 ^ s → x * 2 ^ s + b < 2 ^ (s + l)
+pub place_below : (x s l b : ℕ) → x < 2 ^ l → b < 2 ^ s → x * 2 ^ s + b < 2 ^ (s + l)
 place_below x s l b h k = let m = mul-add-lt x (2 ^ s) b (2 ^ l) h k in let e = pow-add 2 s l in omega arith
 
 deposited_below : (n v s l f : ℕ) → v < 2 ^ n → s + l ≤ n → deposited v s l f < 2 ^ n

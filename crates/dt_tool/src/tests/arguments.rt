@@ -128,7 +128,7 @@ static bool trans_r(DisasContext *ctx, arg_r *a);
 static void decode_extract_decode_Fmt_0(DisasContext *ctx, arg_s *a, uint32_t insn)
 {
     a->rd = extract32(insn, 3, 5);
-    a->imm = twice(ctx, (int32_t)deposit32(extract32(insn, 0, 3), 3, 29, sextract32(insn, 8, 8)));
+    a->imm = twice(ctx, (int32_t)deposit32(sextract32(insn, 0, 3), 3, 29, sextract32(insn, 8, 8)));
     a->k = thrice(ctx);
 }
 

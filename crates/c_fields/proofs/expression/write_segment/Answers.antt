@@ -1,4 +1,3 @@
-use Rattle.std.proofs.Common.{rules}
 use Rattle.dt_text.proofs.Putting.{puts_more}
 use Rattle.c_fields.proofs.expression.write_segment.Goals as goal
 
