@@ -138,17 +138,17 @@ fn read_argument(draft: &mut SetDraft, token: Span, member: Member) -> Result<()
     let members = draft.members.as_slice();
     let count = members.len();
     refuse(is_keyword(name.bytes()), Rule::A4, Detail::Text(token))?;
-    refuse(has_member(members, name), Rule::A2, Detail::Text(token))?;
+    refuse(has_member(members, &name), Rule::A2, Detail::Text(token))?;
     refuse(count >= MOST_ARGUMENTS, Rule::A5, Detail::Text(token))?;
     draft.members.push(Member { ctype, name })?;
     Ok(())
 }
 
 /// Whether an argument has this name.
-pub fn has_member(members: &[Member], name: Name) -> bool
-    ensures { result ≡ has_member members.now name }
+pub fn has_member(members: &[Member], name: &Name) -> bool
+    ensures { result ≡ has_member members.now name.now }
 {
-    members.iter().any(|member| name == member.name)
+    members.iter().any(|member| *name == member.name)
 }
 
 // Refuses a name that a set or a pattern has.

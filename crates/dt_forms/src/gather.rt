@@ -348,7 +348,7 @@ fn give(
     ensures broken { IfErr result
         (λ fault. DefBroken source.now fault (value_rows gathered.old (text_at source.now token) name)) }
 {
-    let is_given = has_value(gathered.values.items(), name);
+    let is_given = has_value(gathered.values.items(), &name);
     let is_past_last = gathered.values.items().len() >= MOST_ARGUMENTS;
     refuse(is_given, Rule::G5, Detail::Text(token))?;
     refuse(is_past_last, Rule::A5, Detail::Text(token))?;
@@ -359,8 +359,8 @@ fn give(
 }
 
 // Whether the argument gets something.
-pub(crate) fn has_value(values: &[(Name, FieldValue)], name: Name) -> bool
-    ensures { result ≡ has_value values.now name }
+pub(crate) fn has_value(values: &[(Name, FieldValue)], name: &Name) -> bool
+    ensures { result ≡ has_value values.now name.now }
 {
-    values.iter().any(|value| name == value.0)
+    values.iter().any(|value| *name == value.0)
 }

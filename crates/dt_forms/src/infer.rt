@@ -106,11 +106,11 @@ fn has_exactly(values: &[(Name, FieldValue)], set: &SetDef) -> bool
 fn has_ints(members: &[Member]) -> bool
     ensures { result ≡ list_all (λ m. is_int m.ctype) members.now }
 {
-    members.iter().all(|member| is_int(member.ctype))
+    members.iter().all(|member| is_int(&member.ctype))
 }
 
-fn is_int(ctype: CType) -> bool
-    ensures { result ≡ is_int ctype }
+fn is_int(ctype: &CType) -> bool
+    ensures { result ≡ is_int ctype.now }
 {
     match ctype {
         CType::Int => true,
@@ -121,13 +121,13 @@ fn is_int(ctype: CType) -> bool
 fn has_members(members: &[Member], values: &[(Name, FieldValue)]) -> bool
     ensures { result ≡ list_all (λ v. has_member members.now v.0) values.now }
 {
-    values.iter().all(|value| has_member(members, value.0))
+    values.iter().all(|value| has_member(members, &value.0))
 }
 
 fn has_values(values: &[(Name, FieldValue)], members: &[Member]) -> bool
     ensures { result ≡ list_all (λ m. has_value values.now m.name) members.now }
 {
-    members.iter().all(|member| has_value(values, member.name))
+    members.iter().all(|member| has_value(values, &member.name))
 }
 
 // The number of the first format that a pattern of this set and these values takes, or that of a new one.
@@ -195,16 +195,24 @@ fn is_same_field(field: &FieldDef, value: &FieldValue) -> bool
 fn same_field(a: &FieldDef, b: &FieldDef) -> bool
     ensures { result ≡ same_field a.now b.now }
 {
-    same_segments(a.segments.items(), b.segments.items()) && same_function(a.function, b.function)
+    same_segments(a.segments.items(), b.segments.items()) && same_function(&a.function, &b.function)
 }
 
-fn same_function(a: Option<Name>, b: Option<Name>) -> bool
-    ensures { result ≡ same_function a b }
+fn same_function(a: &Option<Name>, b: &Option<Name>) -> bool
+    ensures { result ≡ same_function a.now b.now }
 {
-    match (a, b) {
-        (None, None) => true,
-        (Some(a), Some(b)) => a == b,
-        _ => false,
+    match a {
+        None => b.is_none(),
+        Some(name) => is_function(name, b),
+    }
+}
+
+fn is_function(name: &Name, function: &Option<Name>) -> bool
+    ensures { result ≡ same_function (Some name.now) function.now }
+{
+    match function {
+        None => false,
+        Some(other) => *name == *other,
     }
 }
 
@@ -213,30 +221,30 @@ fn same_segments(a: &[Segment], b: &[Segment]) -> bool
 {
     match (a.split_first(), b.split_first()) {
         (None, None) => true,
-        (Some((a, rest)), Some((b, others))) => same_segment(*a, *b) && same_segments(rest, others),
+        (Some((a, rest)), Some((b, others))) => same_segment(a, b) && same_segments(rest, others),
         _ => false,
     }
 }
 
-fn same_segment(a: Segment, b: Segment) -> bool
-    ensures { result ≡ same_segment a b }
+fn same_segment(a: &Segment, b: &Segment) -> bool
+    ensures { result ≡ same_segment a.now b.now }
 {
     match a {
         Segment::Bits {
             pos,
             length,
             signed,
-        } => same_bits(pos, length, signed, b),
+        } => same_bits(*pos, *length, *signed, b),
         Segment::Named {
             name,
             length,
             signed,
-        } => same_named(name, length, signed, b),
+        } => same_named(name, *length, *signed, b),
     }
 }
 
-fn same_bits(pos: u8, length: u8, signed: bool, other: Segment) -> bool
-    ensures { result ≡ same_segment (Bits pos length signed) other }
+fn same_bits(pos: u8, length: u8, signed: bool, other: &Segment) -> bool
+    ensures { result ≡ same_segment (Bits pos length signed) other.now }
 {
     match other {
         Segment::Named { .. } => false,
@@ -244,12 +252,12 @@ fn same_bits(pos: u8, length: u8, signed: bool, other: Segment) -> bool
             pos: pos2,
             length: length2,
             signed: signed2,
-        } => pos == pos2 && length == length2 && same_sign(signed, signed2),
+        } => pos == *pos2 && length == *length2 && same_sign(signed, *signed2),
     }
 }
 
-fn same_named(name: Name, length: u8, signed: bool, other: Segment) -> bool
-    ensures { result ≡ same_segment (Named name length signed) other }
+fn same_named(name: &Name, length: u8, signed: bool, other: &Segment) -> bool
+    ensures { result ≡ same_segment (Named name.now length signed) other.now }
 {
     match other {
         Segment::Bits { .. } => false,
@@ -257,7 +265,7 @@ fn same_named(name: Name, length: u8, signed: bool, other: Segment) -> bool
             name: name2,
             length: length2,
             signed: signed2,
-        } => name == name2 && length == length2 && same_sign(signed, signed2),
+        } => *name == *name2 && length == *length2 && same_sign(signed, *signed2),
     }
 }
 

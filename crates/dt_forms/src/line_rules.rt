@@ -85,7 +85,7 @@ fn outside_argument(values: &[(Name, FieldValue)], members: &[Member]) -> Option
     ensures { result ≡ outside_argument values.now members.now }
 {
     for value in values {
-        if !has_member(members, value.0) {
+        if !has_member(members, &value.0) {
             return Some(value.0);
         }
     }
@@ -97,7 +97,7 @@ fn missing_argument(values: &[(Name, FieldValue)], members: &[Member]) -> Option
     ensures { result ≡ missing_argument values.now members.now }
 {
     for member in members {
-        if !has_value(values, member.name) {
+        if !has_value(values, &member.name) {
             return Some(member.name);
         }
     }
