@@ -70,7 +70,7 @@ fn names_widths_and_scopes_are_those_of_the_options(rt: HostRuntime) -> Result<(
     let files = [Source::read(alloc, 0, Vec::from_slice(alloc, file)?)?];
     let options = options();
     let model = read_model(alloc, &options, files.as_slice())?;
-    let written = text(alloc, &options, &model)?;
+    let written = text(alloc, &model, &options)?;
     assert_eq!(rt; written.as_slice(), WRITTEN.as_bytes());
     Ok(())
 }
@@ -190,7 +190,7 @@ fn model(alloc: Global) -> Result<Model, Fail>
 fn sets_are_declared_with_their_arguments_or_elsewhere(rt: HostRuntime) -> Result<(), Fail> {
     let alloc = rt.alloc();
     let model = model(alloc)?;
-    let written = layout(alloc, &Options::default(), &model)?;
+    let written = layout(alloc, &model, &Options::default())?;
     assert_eq!(rt; written.as_slice(), WITH_SETS.as_bytes());
     Ok(())
 }
@@ -269,7 +269,7 @@ fn model_with_values(alloc: Global) -> Result<Model, Fail>
 fn an_extraction_assigns_in_the_order_of_the_set(rt: HostRuntime) -> Result<(), Fail> {
     let alloc = rt.alloc();
     let model = model_with_values(alloc)?;
-    let written = layout(alloc, &Options::default(), &model)?;
+    let written = layout(alloc, &model, &Options::default())?;
     assert_eq!(rt; written.as_slice(), WITH_VALUES.as_bytes());
     Ok(())
 }

@@ -23,7 +23,7 @@ use std::alloc::{AllocError, Global};
 
 /// The C text of a model's decoder, which tries the patterns in their order. The only error is that memory runs out.
 #[tactic(auto, using(crate::proofs::Models::within_sound, crate::proofs::Models::text_decodes))]
-pub fn text(alloc: Global, options: &Options, model: &Model) -> Result<Vec<u8>, AllocError>
+pub fn text(alloc: Global, model: &Model, options: &Options) -> Result<Vec<u8>, AllocError>
     requires options { IsOptions options.now }
     requires width { model.now.width ≡ options.now.width }
     requires sound { IsSound model.now }
@@ -31,11 +31,11 @@ pub fn text(alloc: Global, options: &Options, model: &Model) -> Result<Vec<u8>, 
     ensures decoder { IfOk result (λ text. IsDecoder options.now.width text.items (outside_sets model.now.sets)
         (trial_patterns (definitions_in model.now))) }
 {
-    layout(alloc, options, model)
+    layout(alloc, model, options)
 }
 
 /// The text alone, which a model has whose numbers are in range, and whose values the helpers have room for.
-pub(crate) fn layout(alloc: Global, options: &Options, model: &Model) -> Result<Vec<u8>, AllocError>
+pub(crate) fn layout(alloc: Global, model: &Model, options: &Options) -> Result<Vec<u8>, AllocError>
     requires within { AreWithin (definitions_in model.now) }
     requires room { All (FormatHasRoom (helper_bits options.now.width)) model.now.formats }
     ensures { IfOk result (λ text. text.items ≡ layout (parts_of options.now (definitions_in model.now))) }

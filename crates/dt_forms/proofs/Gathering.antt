@@ -26,10 +26,3 @@ broken_here width scope bytes before tokens i t d fault all h is broken same =
     let more : List Broken = element_faults width scope (given width scope.fields before (element_of (text_at bytes t))) (map (text_at bytes) (drop (i + 1) tokens)) in
     subst (DefBroken bytes fault) (sym (ap (λ ts. element_faults width scope before (map (text_at bytes) ts)) left) ∙ same)
     (broken_prefix bytes fault (element_rows width scope before (text_at bytes t) (element_of (text_at bytes t))) more broken)
-
--- bits that can't stand at their place refuse their token
-pub place_broken : (width : ℕ) (scope : Scope) (bytes : List ℕ) (before : Gathered) (text name : List ℕ) (len : ℕ) (signed : Bool) (fault : DefFault)
-    → DefBroken bytes fault (place_rows width before text name len) → DefBroken bytes fault (element_rows width scope before text (in_place name len signed))
-place_broken width scope bytes before text name len signed fault h =
-    subst (DefBroken bytes fault) (append_assoc (where_broken (not (is_c_name name) || (len == 0)) (rule.G7, token text)) (where_broken (nat_lt width (length before.digits + len)) (rule.G8, token text)) (value_rows before text name))
-    (broken_prefix bytes fault (place_rows width before text name len) (value_rows before text name) h)

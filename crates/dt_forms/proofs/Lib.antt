@@ -14,6 +14,7 @@ pub mod Entries
 pub mod Widths
 pub mod Fits
 pub mod SameNames
+pub mod SameFields
 pub mod LineValues
 pub mod KeptFieldLines
 pub mod Arguments

@@ -23,8 +23,8 @@ use Rattle.dt_fields.specs.declared.segment.Segment.TheVariants as segment
 use Rattle.dt_fields.specs.declared.set.TheConstants.{MOST_ARGUMENTS}
 use Rattle.dt_fields.proofs.NewNames.{none_passes}
 use Rattle.dt_fields.proofs.Rows.{last_unbroken, one_more, prefix_empty, rest_empty, row_unbroken}
-use Rattle.dt_forms.specs.ElementRows.{element_faults, element_rows, has_value, value_rows}
-use Rattle.dt_forms.specs.Elements.{Element, set_named, format_named, constant, field_named, bits, in_place, other, element_of}
+use Rattle.dt_forms.specs.ElementRows.{element_faults, element_rows, has_value, place_rows, value_rows}
+use Rattle.dt_forms.specs.Elements.{Element, set_named, format, constant, field_named, bits, in_place, other, element_of}
 use Rattle.dt_forms.specs.Gathering.{field_at, field_or_none, given, given_after, gathered, nothing_given}
 use Rattle.dt_forms.specs.Patterns.{GivenValues}
 use Rattle.dt_forms.specs.Scope.{Scope}
@@ -104,8 +104,8 @@ module _ (width : ℕ) (scope : Scope) (fields : AreKeptFields width scope.field
   element_given : (before : Gathered) (text : List ℕ) (e : Element) → element_rows width scope before text e ≡ [] → AreGiven width before.values
       → AreGiven width (given width scope.fields before e).values
   element_given before text (set_named name) none h = h
-  element_given before text (format_named name) none h = h
-  element_given before text (constant name) none h = h
+  element_given before text format none h = h
+  element_given before text constant none h = h
   element_given before text (bits bs) none h = h
   element_given before text other none h = h
   element_given before text (field_named name field) none h =
@@ -117,14 +117,15 @@ module _ (width : ℕ) (scope : Scope) (fields : AreKeptFields width scope.field
       (held_is_kept width (entry_at scope.fields field) (All-lookup (IsKeptField width) (pointwise nat_eq field) scope.fields fields) second.0)
       (not-false (is_c_name name) first.0) second.1
   element_given before text (in_place name len signed) none h =
-      let last : List Broken = value_rows before text name in
+      let place : List Broken = place_rows width before text name len in
       let wide : List Broken = where_broken (nat_lt width (length before.digits + len)) (rule.G8, token text) in
-      let first : ((not (is_c_name name) || (len == 0)) ≡ false) × (wide ++ last ≡ []) = row_unbroken (not (is_c_name name) || (len == 0)) (rule.G7, token text) (wide ++ last) none in
-      let second : (nat_lt width (length before.digits + len) ≡ false) × (last ≡ []) = row_unbroken (nat_lt width (length before.digits + len)) (rule.G8, token text) last first.1 in
+      let first : ((not (is_c_name name) || (len == 0)) ≡ false) × (wide ≡ []) =
+      row_unbroken (not (is_c_name name) || (len == 0)) (rule.G7, token text) wide (prefix_empty place (value_rows before text name) none) in
       let parts : (not (is_c_name name) ≡ false) × ((len == 0) ≡ false) = or_parts (not (is_c_name name)) (len == 0) first.0 in
       value_more width before.values text name (field_at width (length before.digits) len signed) h
-      (placed_is_kept width (length before.digits) len signed (some_bit len parts.1) (within width (length before.digits + len) second.0))
-      (not-false (is_c_name name) parts.0) second.1
+      (placed_is_kept width (length before.digits) len signed (some_bit len parts.1)
+      (within width (length before.digits + len) (last_unbroken (nat_lt width (length before.digits + len)) (rule.G8, token text) first.1)))
+      (not-false (is_c_name name) parts.0) (rest_empty place (value_rows before text name) none)
 
   tokens_given : (before : Gathered) (tokens : List (List ℕ)) → element_faults width scope before tokens ≡ [] → AreGiven width before.values
       → AreGiven width (given_after width scope.fields before tokens).values

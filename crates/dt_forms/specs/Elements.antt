@@ -7,24 +7,24 @@ use Rattle.dt_fields.specs.Numbers.{is_number, decimal}
 use Rattle.dt_fields.specs.Parts.{parts_at_byte}
 use Rattle.dt_forms.specs.Bits.{is_bit}
 
--- what a token is: a set; a format, or an argument with a constant, which aren't read yet; an argument with the name of
--- its field; bits as they are written; an argument with the number of its bits at this place, and whether they are
--- signed; or none of the forms
+-- what a token is: a set; a format, which `@` begins, or an argument with a constant, which aren't read yet; an argument
+-- with the name of its field; bits as they are written; an argument with the number of its bits at this place, and
+-- whether they are signed; or none of the forms
 pub data Element : Type 0 where
   set_named : List ℕ → Element
-  format_named : List ℕ → Element
-  constant : List ℕ → Element
+  format : Element
+  constant : Element
   field_named : List ℕ → List ℕ → Element
   bits : List ℕ → Element
   in_place : List ℕ → ℕ → Bool → Element
   other : Element
 
--- a name behind a mark: & @ %
+-- a name behind a mark: & %
 abbrev pub marked_element : ℕ → List ℕ → Element
 marked_element mark name =
-    if is_name name then
+    if mark == 64 then format
+    else if is_name name then
     if mark == 38 then set_named name
-    else if mark == 64 then format_named name
     else if mark == 37 then field_named name name
     else other
     else other
@@ -38,13 +38,13 @@ abbrev pub digits_of : List ℕ → List ℕ
 digits_of text = if has_sign text then drop 1 text else text
 
 -- what stands behind `ident=`: `%f` or a number
-abbrev pub number_element : List ℕ → List ℕ → Element
-number_element name text = if is_number (digits_of text) then constant name else other
+abbrev pub number_element : List ℕ → Element
+number_element text = if is_number (digits_of text) then constant else other
 
 abbrev pub value_element : List ℕ → List ℕ → Element
 value_element name [] = other
 value_element name (b ∷ bs) =
-    if b == 37 then if is_name bs then field_named name bs else other else number_element name (b ∷ bs)
+    if b == 37 then if is_name bs then field_named name bs else other else number_element (b ∷ bs)
 
 -- what stands behind `ident:`
 abbrev pub length_element : List ℕ → List ℕ → Element

@@ -4,7 +4,7 @@ use Rattle.dt_fields.specs.FieldLines.{no_field}
 use Rattle.dt_fields.specs.Tables.{FieldTable, entry_at}
 use Rattle.dt_fields.specs.declared.field.FieldDef.{FieldDef}
 use Rattle.dt_fields.specs.declared.segment.Segment.TheVariants as segment
-use Rattle.dt_forms.specs.Elements.{Element, set_named, format_named, constant, field_named, bits, in_place, other, element_of}
+use Rattle.dt_forms.specs.Elements.{Element, set_named, format, constant, field_named, bits, in_place, other, element_of}
 use Rattle.dt_forms.specs.declared.gather.Gathered.{Gathered}
 use Rattle.dt_forms.specs.declared.value.FieldValue.{FieldValue}
 use Rattle.dt_forms.specs.declared.value.FieldValue.TheVariants.{Field}
@@ -24,9 +24,13 @@ field_at width before len signed =
 abbrev pub with_value : Gathered → List ℕ → FieldValue → Gathered
 with_value g name value = record { set = g.set; digits = g.digits; values = g.values ++ (name, value) ∷ [] }
 
+-- bits behind the others
+abbrev pub with_bits : Gathered → List ℕ → Gathered
+with_bits g bs = record { set = g.set; digits = g.digits ++ bs; values = g.values }
+
 -- bits of a field behind the others, each a `.`
 abbrev pub with_dots : Gathered → ℕ → Gathered
-with_dots g len = record { set = g.set; digits = g.digits ++ replicate len 46; values = g.values }
+with_dots g len = with_bits g (replicate len 46)
 
 -- an argument with the bits at this place
 abbrev pub placed : ℕ → Gathered → List ℕ → ℕ → Bool → Gathered
@@ -35,10 +39,10 @@ placed width g name len signed =
 
 abbrev pub given : ℕ → FieldTable → Gathered → Element → Gathered
 given width fields g (set_named name) = record { set = Some name; digits = g.digits; values = g.values }
-given width fields g (format_named name) = g
-given width fields g (constant name) = g
+given width fields g format = g
+given width fields g constant = g
 given width fields g (field_named name field) = with_value g name (Field (field_or_none (entry_at fields field)))
-given width fields g (bits bs) = record { set = g.set; digits = g.digits ++ bs; values = g.values }
+given width fields g (bits bs) = with_bits g bs
 given width fields g (in_place name len signed) = placed width g name len signed
 given width fields g other = g
 

@@ -1,4 +1,5 @@
--- The set and the format of a pattern that names none (docs/devel/decodetree.rst, "Patterns"). The names of new ones are this project's.
+-- The set and the format of a pattern that names none (docs/devel/decodetree.rst, "Patterns"). The exact rules and the
+-- names of new ones are this project's.
 use Rattle.std.specs.Prelude.{ℕ, ◌≡◌, ◌==◌, ◌&&◌, Bool, true, false, not, List, [], ◌∷◌, ◌++◌, length, map, Option, Some, None, unwrap_or, codes}
 use Rattle.std.specs.Cmp.Lexicographic.{pointwise}
 use Rattle.std.specs.Fmt.{decimal}
@@ -86,8 +87,8 @@ gives values v = list_any (λ w. is_text v.0 w.0 && same_value v.1 w.1) values
 abbrev pub has_fields_of : GivenValues → Format → Bool
 has_fields_of values f = list_all (gives f.values) values && list_all (gives values) f.values
 
--- A format of this set, for words of so many bits, that gives just these fields, and no constant. The same fields take
--- the same bits of the word.
+-- A format of this set, for words of so many bits, that gives just these fields, and no constant. It has the field mask
+-- of the line too, since the same fields take the same bits of the word.
 abbrev pub fits_pattern : ℕ → ℕ → GivenValues → Format → Bool
 fits_pattern width set values f = (f.set == set) && ((f.bits == width) && has_fields_of values f)
 

@@ -14,7 +14,7 @@ use Rattle.dt_forms.specs.declared.head.Head.{Head}
 use Rattle.dt_forms.specs.declared.head.Head.TheVariants as head
 use Rattle.dt_forms.specs.declared.options.Options.{Options}
 use Rattle.dt_forms.specs.declared.reader.TheConstants.{MOST_PATTERNS}
-use Rattle.dt_forms.specs.Elements.{Element, set_named, format_named, constant, field_named, bits, in_place, other, element_of}
+use Rattle.dt_forms.specs.Elements.{Element, set_named, format, constant, field_named, bits, in_place, other, element_of}
 use Rattle.dt_forms.specs.FileLines.{FileLine, all_lines, line_position}
 use Rattle.dt_forms.specs.Heads.{head_of}
 use Rattle.dt_forms.specs.PatternLines.{after_pattern, pattern_faults}
@@ -22,8 +22,8 @@ use Rattle.dt_forms.specs.Scope.{Scope, nothing_defined, pattern_names}
 
 abbrev pub is_later_element : Element → Bool
 is_later_element (set_named name) = false
-is_later_element (format_named name) = true
-is_later_element (constant name) = true
+is_later_element format = true
+is_later_element constant = true
 is_later_element (field_named name field) = false
 is_later_element (bits bs) = false
 is_later_element (in_place name len signed) = false
@@ -32,8 +32,8 @@ is_later_element other = false
 abbrev pub is_later_form : List ℕ → Bool
 is_later_form text = is_later_element (element_of text)
 
--- N2: a group's mark or `@` begins the line, or a later token of a pattern line is a format or an argument with a
--- constant
+-- N2: a group's mark or `@` begins the line, or `@` begins a later token of a pattern line, or such a token gives an
+-- argument a constant
 abbrev pub is_not_built : List (List ℕ) → Head → Bool
 is_not_built rest head.Group = true
 is_not_built rest head.Format = true

@@ -86,7 +86,7 @@ argument_names sets formats p = map (λ m. m.name) (members_of_pattern sets form
 abbrev pub given_names : List Format → Pattern → List (List ℕ)
 given_names formats p = map (λ v. v.0) (given_values formats p)
 
--- a pattern gives each argument of its set a value, once
+-- a pattern gives each argument of its set a value, once, and none to any other name
 abbrev pub GivesArguments : List SetDef → List Format → Pattern → Type 0
 GivesArguments sets formats p = IsPermutation (given_names formats p) (argument_names sets formats p)
 

@@ -18,10 +18,10 @@ use dt_values::Name;
 pub(crate) enum Element<'a> {
     /// `&set`.
     Set(Name),
-    /// `@format`, which isn't read yet.
-    Format(Name),
+    /// `@` and what follows it, which isn't read yet.
+    Format,
     /// `ident=number`, which isn't read yet.
-    Constant(Name),
+    Constant,
     /// `ident=%field`, or `%field`, whose argument has the field's name.
     Field(Name, Name),
     /// `0`, `1`, `.` and `-`.
@@ -76,12 +76,14 @@ fn marked_element<'a>(mark: u8, name: &'a [u8]) -> Element<'a>
     ensures element { element_seen result ≡ marked_element mark name.now }
     ensures digits { HasDigits result }
 {
+    if mark == b'@' {
+        return Element::Format;
+    }
     let Some(name) = Name::from_bytes(name) else {
         return Element::Other;
     };
     match mark {
         b'&' => Element::Set(name),
-        b'@' => Element::Format(name),
         b'%' => Element::Field(name, name),
         _ => Element::Other,
     }
@@ -135,7 +137,7 @@ fn value_element(name: Name, value: &[u8]) -> Element<'_>
             if *mark == b'%' {
                 field_element(name, field)
             } else {
-                number_element(name, value)
+                number_element(value)
             }
         }
     }
@@ -151,14 +153,14 @@ fn field_element<'a>(name: Name, field: &'a [u8]) -> Element<'a>
     }
 }
 
-fn number_element<'a>(name: Name, value: &'a [u8]) -> Element<'a>
-    ensures element { element_seen result ≡ number_element name value.now }
+fn number_element(value: &[u8]) -> Element<'_>
+    ensures element { element_seen result ≡ number_element value.now }
     ensures digits { HasDigits result }
 {
     if !is_number(digits_of(value)) {
         return Element::Other;
     }
-    Element::Constant(name)
+    Element::Constant
 }
 
 // A number without the sign before it.
@@ -186,7 +188,7 @@ pub(crate) fn is_later_form(text: &[u8]) -> bool
     ensures { result ≡ is_later_form text.now }
 {
     match element_of(text) {
-        Element::Format(_) | Element::Constant(_) => true,
+        Element::Format | Element::Constant => true,
         Element::Set(_)
         | Element::Field(_, _)
         | Element::Bits(_)

@@ -1,6 +1,6 @@
 //! Gathers what the tokens of a pattern line give it.
 
-ghost use Rattle.std.specs.Prelude.{◌≡◌, ◌+◌, ◌≤◌, [], ℕ, List, min, IsTrue, length, map, All, IfOk, IfErr, OnOk};
+ghost use Rattle.std.specs.Prelude.{◌≡◌, ◌+◌, ◌≤◌, ◌++◌, [], ℕ, List, min, IsTrue, length, map, All, IfOk, IfErr, OnOk};
 ghost use Rattle.std.specs.Char.{is_ascii_digit};
 ghost use Rattle.std.specs.List.{list_all};
 ghost use Rattle.dt_values.specs.Widths.{width_bits};
@@ -8,10 +8,10 @@ ghost use Rattle.dt_lines.specs.Spans.{IsWithin, text_at};
 ghost use Rattle.dt_fields.specs.Numbers.{decimal};
 ghost use Rattle.dt_fields.specs.View.{DefBroken};
 ghost use Rattle.dt_fields.specs.declared.number.TheConstants.{LARGEST_NUMBER};
-ghost use Rattle.dt_forms.specs.ElementRows.{IsSmall, element_faults, element_rows, has_value, place_rows, value_rows};
-ghost use Rattle.dt_forms.specs.Elements.{bits, element_of, field_named, in_place, set_named};
+ghost use Rattle.dt_forms.specs.ElementRows.{IsSmall, bits_rows, element_faults, element_rows, has_value, place_rows, value_rows};
+ghost use Rattle.dt_forms.specs.Elements.{element_of, field_named, set_named};
 ghost use Rattle.dt_forms.specs.Fitting.{ValueFits};
-ghost use Rattle.dt_forms.specs.Gathering.{field_at, gathered, given, nothing_given, placed, with_dots, with_value};
+ghost use Rattle.dt_forms.specs.Gathering.{field_at, gathered, given, nothing_given, placed, with_bits, with_dots, with_value};
 
 use crate::digits::Digits;
 use crate::element::{Element, element_of};
@@ -82,13 +82,13 @@ fn read_element(
 {
     match element_of(token.text(source)) {
         Element::Set(name) => read_set(width, scope, gathered, source, token, name),
-        Element::Format(_) | Element::Constant(_) => Ok(()),
+        Element::Format | Element::Constant => Ok(()),
         Element::Field(name, field) => {
             read_field(alloc, width, scope, gathered, source, token, name, field)
         }
-        Element::Bits(bits) => read_bits(width, scope, gathered, source, token, bits),
+        Element::Bits(bits) => read_bits(width, gathered, source, token, bits),
         Element::InPlace(name, digits, signed) => read_in_place(
-            alloc, width, scope, gathered, source, token, name, digits, signed,
+            alloc, width, gathered, source, token, name, digits, signed,
         ),
         Element::Other => Err(DefFault::Broken(Rule::G7, Detail::Text(token))),
     }
@@ -168,7 +168,6 @@ fn read_field(
 // Bits as they are written.
 fn read_bits(
     width: Width,
-    scope: &Scope,
     gathered: &mut Gathered,
     source: &[u8],
     token: Span,
@@ -176,15 +175,13 @@ fn read_bits(
 ) -> Result<(), DefFault>
     requires within { IsWithin (length source.now) token }
     requires small { IsSmall (width_bits width) gathered.old }
-    ensures given { OnOk result
-        (gathered.new ≡ given (width_bits width) scope.now.fields gathered.old (bits written.now)) }
+    ensures given { OnOk result (gathered.new ≡ with_bits gathered.old written.now) }
     ensures small { OnOk result (IsSmall (width_bits width) gathered.new) }
-    ensures kept { OnOk result (element_rows (width_bits width) scope.now gathered.old (text_at source.now token)
-        (bits written.now) ≡ []) }
-    ensures broken { IfErr result (λ fault. DefBroken source.now fault (element_rows (width_bits width) scope.now
-        gathered.old (text_at source.now token) (bits written.now))) }
+    ensures kept { OnOk result
+        (bits_rows (width_bits width) gathered.old (text_at source.now token) written.now ≡ []) }
+    ensures broken { IfErr result (λ fault. DefBroken source.now fault
+        (bits_rows (width_bits width) gathered.old (text_at source.now token) written.now)) }
 {
-    let _scope = scope;
     let room = width.bits() as usize - gathered.digits.items().len();
     refuse(written.len() > room, Rule::G8, Detail::Text(token))?;
     match gathered.digits.extend(written) {
@@ -194,10 +191,10 @@ fn read_bits(
 }
 
 // An argument with the bits at its place.
+#[tactic(auto, using(dt_fields::proofs::FirstFaults::broken_prefix))]
 fn read_in_place(
     alloc: Global,
     width: Width,
-    scope: &Scope,
     gathered: &mut Gathered,
     source: &[u8],
     token: Span,
@@ -208,15 +205,16 @@ fn read_in_place(
     requires within { IsWithin (length source.now) token }
     requires small { IsSmall (width_bits width) gathered.old }
     requires digits { IsTrue (list_all is_ascii_digit digits.now) }
-    ensures given { OnOk result (gathered.new ≡ given (width_bits width) scope.now.fields gathered.old
-        (in_place name (decimal digits.now) signed)) }
+    ensures given { OnOk result
+        (gathered.new ≡ placed (width_bits width) gathered.old name (decimal digits.now) signed) }
     ensures small { OnOk result (IsSmall (width_bits width) gathered.new) }
-    ensures kept { OnOk result (element_rows (width_bits width) scope.now gathered.old (text_at source.now token)
-        (in_place name (decimal digits.now) signed) ≡ []) }
-    ensures broken { IfErr result (λ fault. DefBroken source.now fault (element_rows (width_bits width) scope.now
-        gathered.old (text_at source.now token) (in_place name (decimal digits.now) signed))) }
+    ensures kept { let text = text_at source.now token in OnOk result
+        (place_rows (width_bits width) gathered.old text name (decimal digits.now) ++ value_rows gathered.old text name
+        ≡ []) }
+    ensures broken { let text = text_at source.now token in IfErr result (λ fault. DefBroken source.now fault
+        (place_rows (width_bits width) gathered.old text name (decimal digits.now)
+        ++ value_rows gathered.old text name)) }
 {
-    let _scope = scope;
     let count = number_of(digits);
     match check_place(width, gathered, source, token, name, count) {
         Err(fault) => Err(fault),

@@ -1,10 +1,12 @@
 //! Laws of files and their flat lists: public functions whose contracts are the laws, and whose bodies are empty.
 
-ghost use Rattle.std.specs.Prelude.{◌≡◌, ◌<◌, ◌≤◌, ◌^◌, ℕ, List, None, Some, length, get_or, All};
+ghost use Rattle.std.specs.Prelude.{◌≡◌, ◌<◌, ◌≤◌, ◌^◌, ℕ, List, None, Some, true, length, get_or, All};
 ghost use Rattle.dt_values.specs.Widths.{width_bits};
+ghost use Rattle.dt_fields.specs.declared.field.FieldDef.{FieldDef};
 ghost use Rattle.dt_forms.specs.declared.options.Options.{Options};
 ghost use Rattle.dt_forms.specs.declared.reader.TheConstants.{MOST_FILES};
 ghost use Rattle.dt_forms.specs.FileFaults.{HaveNoFileFault, file_fault, first_broken};
+ghost use Rattle.dt_forms.specs.Inference.{same_field};
 ghost use Rattle.dt_forms.specs.Models.{flat_list};
 ghost use Rattle.dt_forms.specs.Options.{IsOptionName};
 ghost use Rattle.dt_forms.specs.Patterns.{position_of};
@@ -34,4 +36,9 @@ pub fn law_first_broken()
         → ((earlier : ℕ) → earlier < place → file_fault earlier (get_or texts earlier text) ≡ None)
         → place < length texts → file_fault place (get_or texts place text) ≡ Some fault
         → first_broken options texts ≡ Some fault }
+{}
+
+/// The test of two fields that decides which format a pattern takes is true exactly where they are the same.
+pub fn law_same_field()
+    ensures { (f g : FieldDef) → (same_field f g ≡ true → f ≡ g) × (f ≡ g → same_field f g ≡ true) }
 {}

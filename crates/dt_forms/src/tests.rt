@@ -150,7 +150,7 @@ fn words_of_32_bits(rt: HostRuntime) -> Result<(), Fail> {
 
 #[test]
 fn lines_that_are_not_built(rt: HostRuntime) -> Result<(), Fail> {
-    let table: [&[u8]; 11] = [
+    let table: [&[u8]; 13] = [
         b"}",
         b"{",
         b"[ 0x",
@@ -158,6 +158,8 @@ fn lines_that_are_not_built(rt: HostRuntime) -> Result<(), Fail> {
         b"@f ----------------",
         b"@",
         b" p @f",
+        b"p * @",
+        b"p @a-b",
         b"p a=12 *",
         b"p 9a=-1",
         b"p if=+0",

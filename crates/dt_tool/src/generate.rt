@@ -100,7 +100,7 @@ fn generate_from(alloc: Global, file: &str, bytes: Vec<u8>) -> Result<Vec<u8>, S
     };
     let model = model_of(alloc, &options, inputs)?;
     refuse_overlaps(alloc, inputs, &model)?;
-    match text(alloc, &options, &model) {
+    match text(alloc, &model, &options) {
         Ok(text) => Ok(text),
         Err(_) => Err(Stop::NoMemory),
     }

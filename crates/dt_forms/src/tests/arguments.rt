@@ -13,14 +13,13 @@ fn named(name: &[u8]) -> Result<Detail, Fail> {
 
 #[test]
 fn tokens_are_refused_by_their_first_rule(rt: HostRuntime) -> Result<(), Fail> {
-    let table: [(&[u8], (u32, Rule, Detail)); 27] = [
+    let table: [(&[u8], (u32, Rule, Detail)); 26] = [
         (b"&s a\n&t a\np &s &t", (3, Rule::G1, text(15, 17))),
         (b"&s a\np &s &t", (2, Rule::G1, text(10, 12))),
         (b"p &s", (1, Rule::G2, text(2, 4))),
         (b"p *", (1, Rule::G7, text(2, 3))),
         (b"p %", (1, Rule::G7, text(2, 3))),
         (b"p &", (1, Rule::G7, text(2, 3))),
-        (b"p @", (1, Rule::G7, text(2, 3))),
         (b"p a=", (1, Rule::G7, text(2, 4))),
         (b"p a=0x1", (1, Rule::G7, text(2, 7))),
         (b"p a=%", (1, Rule::G7, text(2, 5))),
