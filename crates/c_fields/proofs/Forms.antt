@@ -1,7 +1,7 @@
 -- The expression of a sound value keeps the rules of the C subset, and helpers have room for it.
 use Rattle.std.proofs.Common.{◌≡◌, ℕ, ◌<◌, ◌≤◌, ◌^◌, Bool, true, false, cond, List, [], ◌∷◌, Option, Some, None}
 use Rattle.std.proofs.Common.{refl, arith, lit<}
-use Rattle.std.specs.Prelude.{IfSome, IsTrue, not}
+use Rattle.std.specs.Prelude.{IfSome, IsTrue, is_some, not}
 use Rattle.std.specs.List.{All}
 use Rattle.std.proofs.lemmas.Bool.{and_parts}
 use Rattle.std.proofs.lemmas.List.Elements.{All-head, All-tail, All-weaker}
@@ -18,7 +18,7 @@ use Rattle.dt_fields.specs.declared.segment.Segment.TheVariants.{Bits, Named}
 use Rattle.dt_forms.specs.declared.value.FieldValue.{FieldValue}
 use Rattle.dt_forms.specs.declared.value.FieldValue.TheVariants.{Field, Constant}
 use Rattle.c_subset.specs.Exprs.{Term, cast}
-use Rattle.c_subset.specs.ExprForms.{is_bits, is_function, SourceNamed, TermKeeps}
+use Rattle.c_subset.specs.ExprForms.{is_bits, is_function, SourceNamed, StandsIn, TermKeeps}
 use Rattle.dt_match.specs.FieldValues.{has_sign}
 use Rattle.c_eval.specs.Meaning.{helper_bits}
 use Rattle.c_fields.specs.Values.{AreNamed, HasRoom, KeepsValueRules, IsValueNamed}
@@ -142,3 +142,38 @@ pub value_keeps : (w : Width) (set : Option (List ℕ)) (value : FieldValue) →
     → IsValueNamed set value → TermKeeps (value_term (helper_bits w) set value)
 value_keeps w set (Field field) sound named = field_keeps w set field sound named
 value_keeps w set (Constant z) fits named = record { form = tt; names = fits }
+
+-- ---- where arguments are named
+segment_stands : (set : Option (List ℕ)) (s : Segment) → StandsIn (is_some set) (segment_term set s)
+segment_stands set (Bits place length sign) = tt
+segment_stands set (Named name length sign) = refl
+
+folded_stands : (n : ℕ) (set : Option (List ℕ)) (s : Segment) (ss : List Segment)
+    → StandsIn (is_some set) (folded n set s ss)
+folded_stands n set s [] = segment_stands set s
+folded_stands n set s (t ∷ ts) = (folded_stands n set t ts, segment_stands set s)
+
+several_stands : (in_decoder sign : Bool) (e : Term) → StandsIn in_decoder e → StandsIn in_decoder (cond sign (cast e) e)
+several_stands in_decoder true e h = h
+several_stands in_decoder false e h = h
+
+joined_stands : (n : ℕ) (set : Option (List ℕ)) (ss : List Segment) → StandsIn (is_some set) (joined_term n set ss)
+joined_stands n set [] = tt
+joined_stands n set (s ∷ []) = segment_stands set s
+joined_stands n set (s ∷ t ∷ ts) =
+    several_stands (is_some set) (has_sign s) (folded n set s (t ∷ ts)) (folded_stands n set s (t ∷ ts))
+
+applied_stands : (in_decoder : Bool) (function : Option (List ℕ)) (ss : List Segment) (e : Term)
+    → StandsIn in_decoder e → StandsIn in_decoder (applied_term function ss e)
+applied_stands in_decoder None ss e h = h
+applied_stands in_decoder (Some name) [] e h = tt
+applied_stands in_decoder (Some name) (s ∷ ss) e h = h
+
+pub field_stands : (n : ℕ) (set : Option (List ℕ)) (field : FieldDef) → StandsIn (is_some set) (field_term n set field)
+field_stands n set field =
+    applied_stands (is_some set) field.function field.segments (joined_term n set field.segments)
+    (joined_stands n set field.segments)
+
+pub value_stands : (n : ℕ) (set : Option (List ℕ)) (value : FieldValue) → StandsIn (is_some set) (value_term n set value)
+value_stands n set (Field field) = field_stands n set field
+value_stands n set (Constant z) = tt

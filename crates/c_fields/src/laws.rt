@@ -1,12 +1,12 @@
 //! Laws of the expressions of fields: public functions whose contracts are the laws, and whose bodies are empty.
 
-ghost use Rattle.std.specs.Prelude.{◌≡◌, ℕ, ℤ, ◌<◌, ◌^◌, List, Option, Some};
+ghost use Rattle.std.specs.Prelude.{◌≡◌, ℕ, ℤ, ◌<◌, ◌^◌, List, Option, Some, is_some};
 ghost use Rattle.dt_values.specs.Widths.{width_bits};
 ghost use Rattle.dt_values.specs.declared.width.Width.{Width};
 ghost use Rattle.dt_fields.specs.SoundFields.{IsSoundField};
 ghost use Rattle.dt_fields.specs.declared.field.FieldDef.{FieldDef};
 ghost use Rattle.dt_forms.specs.declared.value.FieldValue.{FieldValue};
-ghost use Rattle.c_subset.specs.ExprForms.{ArgumentNamed, HasNames, TermKeeps};
+ghost use Rattle.c_subset.specs.ExprForms.{ArgumentNamed, HasNames, StandsIn, TermKeeps};
 ghost use Rattle.c_subset.specs.ExprSpelling.{assign_spelled};
 ghost use Rattle.c_subset.specs.Exprs.{Term};
 ghost use Rattle.c_subset.specs.Tokens.{tokens_of};
@@ -31,12 +31,17 @@ pub fn law_field_expression()
 {}
 
 /// The expression of a sound field keeps the rules of the C subset, where what it names are names. The same of all
-/// values.
+/// values. The arguments in it are named with the set where there is one, as in the decoder, and else alone, as in an
+/// extraction.
 pub fn law_expression_keeps_rules()
     ensures field { (w : Width) (set : Option (List ℕ)) (field : FieldDef) → IsSoundField (width_bits w) field
         → AreNamed set field.segments → TermKeeps (field_term (helper_bits w) set field) }
     ensures value { (w : Width) (set : Option (List ℕ)) (value : FieldValue) → KeepsValueRules (width_bits w) value
         → IsValueNamed set value → TermKeeps (value_term (helper_bits w) set value) }
+    ensures field_place { (n : ℕ) (set : Option (List ℕ)) (field : FieldDef)
+        → StandsIn (is_some set) (field_term n set field) }
+    ensures value_place { (n : ℕ) (set : Option (List ℕ)) (value : FieldValue)
+        → StandsIn (is_some set) (value_term n set value) }
 {}
 
 /// A sound value has room in the helpers of its width, so that its line can be written.

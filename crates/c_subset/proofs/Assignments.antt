@@ -7,10 +7,11 @@ use Rattle.c_subset.specs.Marks.{close_brace, equals, semicolon}
 use Rattle.c_subset.specs.Tokens.{Token, mark}
 use Rattle.c_subset.specs.Exprs.{Term, Assignment}
 use Rattle.c_subset.specs.ExprSpelling.{argument_spelled, expr_spelled, assign_spelled, assignment_spelled}
-use Rattle.c_subset.specs.ExprForms.{TermKeeps, AssignmentKeeps}
+use Rattle.c_subset.specs.ExprForms.{TermKeeps}
 use Rattle.c_subset.proofs.Apart.{mark_no_word}
 use Rattle.c_subset.proofs.Parts.{Same, same_parts}
 use Rattle.c_subset.proofs.Expressions.{argument_once, expr_once}
+use Rattle.c_subset.proofs.Readable.{AssignmentReads}
 
 pub record SameAssign (s t : Option (List ℕ)) (m n : List ℕ) (e f : Term) (a b : List Token) : Type 0 where
   pub set : s ≡ t
@@ -34,15 +35,15 @@ assign_once w s t m n e f a b h k is =
     let value = expr_once w e f (semicolon ∷ a) (semicolon ∷ b) h.form k.form h.names k.names refl refl (behind_mark 61 _ _ target.rest) in
     record { set = target.set; argument = target.name; value = value.same; rest = behind_mark 59 a b value.rest }
 
-assignment_once : (w : Width) (x y : Assignment) (a b : List Token) → AssignmentKeeps x → AssignmentKeeps y → assignment_spelled w x ++ a ≡ assignment_spelled w y ++ b → Same x y a b
+assignment_once : (w : Width) (x y : Assignment) (a b : List Token) → AssignmentReads x → AssignmentReads y → assignment_spelled w x ++ a ≡ assignment_spelled w y ++ b → Same x y a b
 assignment_once w x y a b h k is =
-    let q = assign_once w None None x.argument y.argument x.value y.value a b h.value k.value is in
+    let q = assign_once w None None x.argument y.argument x.value y.value a b h k is in
     record { same = λ i. record { argument = q.argument i; value = q.value i }; rest = q.rest }
 
 -- assignments before a closing brace
-pub assignments_once : (w : Width) (xs ys : List Assignment) (a b : List Token) → All AssignmentKeeps xs → All AssignmentKeeps ys → (flat_map (assignment_spelled w) xs ++ close_brace ∷ []) ++ a ≡ (flat_map (assignment_spelled w) ys ++ close_brace ∷ []) ++ b → Same xs ys a b
+pub assignments_once : (w : Width) (xs ys : List Assignment) (a b : List Token) → All AssignmentReads xs → All AssignmentReads ys → (flat_map (assignment_spelled w) xs ++ close_brace ∷ []) ++ a ≡ (flat_map (assignment_spelled w) ys ++ close_brace ∷ []) ++ b → Same xs ys a b
 assignments_once w xs ys a b h k is =
     let f = flat_map (assignment_spelled w) in
     let both = sym (append_assoc (f xs) (close_brace ∷ []) a) ∙ is ∙ append_assoc (f ys) (close_brace ∷ []) b in
-    let q = same_parts AssignmentKeeps (assignment_spelled w) (assignment_once w) xs ys (close_brace ∷ a) (close_brace ∷ b) h k (λ x c e. mark_no_word _ _ _ _ e) (λ x c e. mark_no_word _ _ _ _ e) both in
+    let q = same_parts AssignmentReads (assignment_spelled w) (assignment_once w) xs ys (close_brace ∷ a) (close_brace ∷ b) h k (λ x c e. mark_no_word _ _ _ _ e) (λ x c e. mark_no_word _ _ _ _ e) both in
     record { same = q.same; rest = behind_mark 125 a b q.rest }

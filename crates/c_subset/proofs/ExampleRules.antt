@@ -35,16 +35,16 @@ differs x (y ∷ ys) h =
     let p = both_true (not (same_bytes x y)) (is_apart x ys) h in
     All-cons (λ z. x ≢ z) y ys (not_same x y p.0) (differs x ys p.1)
 
-all_differ : (xs : List Name) → IsTrue (are_apart xs) → AllDiffer xs
+pub all_differ : (xs : List Name) → IsTrue (are_apart xs) → AllDiffer xs
 all_differ [] h = λ i j d l k. absurd (omega (arith, k))
 all_differ (x ∷ xs) h =
     let p = both_true (is_apart x xs) (are_apart xs) h in
     AllPairs-cons (λ v w. v ≢ w) x xs (differs x xs p.0) (all_differ xs p.1)
 
-one : {X : Type 0} (P : X → Type 0) (x : X) → P x → All P (x ∷ [])
+pub one : {X : Type 0} (P : X → Type 0) (x : X) → P x → All P (x ∷ [])
 one P x h = All-cons P x [] h (All-nil P)
 
-two : {X : Type 0} (P : X → Type 0) (x y : X) → P x → P y → All P (x ∷ y ∷ [])
+pub two : {X : Type 0} (P : X → Type 0) (x y : X) → P x → P y → All P (x ∷ y ∷ [])
 two P x y h k = All-cons P x (y ∷ []) h (one P y k)
 
 three : {X : Type 0} (P : X → Type 0) (x y z : X) → P x → P y → P z → All P (x ∷ y ∷ z ∷ [])
@@ -163,6 +163,7 @@ branch_keeps = record {
           (tt, lit< tt, lit< tt),
         );
       };
+      place = (((tt, tt), tt), tt);
     });
   });
   formats_differ = all_differ (_ ∷ []) refl;
@@ -196,6 +197,7 @@ assigned_keeps = record {
     assigns = one AssignmentKeeps _ (record {
       argument = refl;
       value = record { form = refl; names = (refl, lit< tt, lit< tt) };
+      place = refl;
     });
   });
   formats_differ = all_differ (_ ∷ []) refl;
@@ -204,11 +206,11 @@ assigned_keeps = record {
   union_sets_differ = all_differ (_ ∷ []) refl;
   union_with_patterns = λ e. cc;
   body_keeps = (
-    (refl, refl, record { form = tt; names = lit< tt }),
+    (refl, refl, record { form = tt; names = lit< tt }, tt),
     (
-      (refl, refl, record { form = tt; names = refl }),
+      (refl, refl, record { form = tt; names = refl }, tt),
       (
-        (refl, refl, record { form = (refl, refl); names = (refl, ((refl, refl), lit< tt, lit< tt)) }),
+        (refl, refl, record { form = (refl, refl); names = (refl, ((refl, refl), lit< tt, lit< tt)) }, refl),
         ((refl, refl), ((refl, refl), tt)),
       ),
     ),

@@ -3,13 +3,15 @@ pub mod Assignments
 pub mod ByRules
 pub mod Bytes
 pub mod Ends
-mod ExampleRules
+pub mod ExampleRules
 pub mod ExpressionSorts
 pub mod Expressions
 pub mod Lexing
+pub mod Misplaced
 pub mod Numbers
 pub mod Parts
 pub mod Programs
+pub mod Readable
 pub mod Seeing
 pub mod Sets
 pub mod Statements

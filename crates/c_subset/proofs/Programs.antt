@@ -8,15 +8,16 @@ use Rattle.dt_values.specs.declared.width.Width.TheVariants.{W16, W32, W64}
 use Rattle.dt_values.specs.Widths.{width_bits}
 use Rattle.dt_fields.specs.declared.set.SetDef.{SetDef}
 use Rattle.c_subset.specs.Marks.{close_brace}
-use Rattle.c_subset.specs.Tokens.{Token, word, mark}
+use Rattle.c_subset.specs.Tokens.{Token, word, mark, tokens_of}
 use Rattle.c_subset.specs.Exprs.{Assignment}
 use Rattle.c_subset.specs.ExprSpelling.{assignment_spelled}
 use Rattle.c_subset.specs.Programs.{Name, Pattern, Extraction, Prefix, Program, set_spelled, pattern_spelled, prototype_spelled, static_spelled, extract_spelled, first_parameter, word_type, stmts_spelled, union_set_spelled, union_spelled, decoder_head_spelled, decoder_end_spelled, decoder_spelled, prefix_of, spelling}
 use Rattle.dt_values.specs.Names.{IsName}
-use Rattle.c_subset.specs.Keeps.{SetKeeps, PatternNamed, ExtractionKeeps, StmtsBelow, KeepsRules}
+use Rattle.c_subset.specs.Keeps.{SetKeeps, PatternNamed, StmtsBelow}
 use Rattle.c_subset.specs.Spells.{Spells}
 use Rattle.c_subset.proofs.Apart.{word_of, first_word, differ, mark_no_word}
 use Rattle.c_subset.proofs.Parts.{behind_arg, Same, AllAlike, parts_once, same_parts}
+use Rattle.c_subset.proofs.Readable.{ExtractionReads, ProgramReads, program_reads}
 use Rattle.c_subset.proofs.Sets.{set_once}
 use Rattle.c_subset.proofs.Assignments.{assignments_once}
 use Rattle.c_subset.proofs.Statements.{stmts_once}
@@ -47,11 +48,11 @@ extract_tail v w x y t u a b e = ((cc), (cc), (cc), (cc))
 abbrev extract_end : Width → List Assignment → List Token
 extract_end w assigns = flat_map (assignment_spelled w) assigns ++ close_brace ∷ []
 
-extract_once : (v w : Width) (d e : Name) (x y : Extraction) (a b : List Token) → ExtractionKeeps x → ExtractionKeeps y → extract_spelled v d x ++ a ≡ extract_spelled w e y ++ b → AlikeExtracts d e x y × (a ≡ b)
+extract_once : (v w : Width) (d e : Name) (x y : Extraction) (a b : List Token) → ExtractionReads x → ExtractionReads y → extract_spelled v d x ++ a ≡ extract_spelled w e y ++ b → AlikeExtracts d e x y × (a ≡ b)
 extract_once v w d e x y a b h k is =
     let q = extract_tail (d ++ codes "_extract_" ++ x.format) (e ++ codes "_extract_" ++ y.format) (codes "arg_" ++ x.set) (codes "arg_" ++ y.set) (word_type v) (word_type w) (extract_end v x.assigns ++ a) (extract_end w y.assigns ++ b) is in
     let width = type_once v w q.2 in
-    let assigns = assignments_once v x.assigns y.assigns a b h.assigns k.assigns (q.3 ∙ ap (λ u. extract_end u y.assigns ++ b) (sym width)) in
+    let assigns = assignments_once v x.assigns y.assigns a b h k (q.3 ∙ ap (λ u. extract_end u y.assigns ++ b) (sym width)) in
     ((q.0, behind_arg x.set y.set q.1, assigns.same), assigns.rest)
 
 -- a prototype: its names, whether it is static, and the prefix
@@ -176,17 +177,17 @@ prefix_back None (Some y) ns h k l = let e : false ≡ true = h.1 (k.0 refl) in 
 prefix_back (Some x) None ns h k l = let e : false ≡ true = k.1 (h.0 refl) in cc
 prefix_back (Some x) (Some y) ns h k l = ap Some (l (h.0 refl))
 
-pub programs_once : (p q : Program) → KeepsRules p → KeepsRules q → spelling p ≡ spelling q → p ≡ q
+pub programs_once : (p q : Program) → ProgramReads p → ProgramReads q → spelling p ≡ spelling q → p ≡ q
 unfolding spelling
 programs_once p q h k is =
     let x = prefix_of p.prefix in
     let y = prefix_of q.prefix in
-    let sets = same_parts SetKeeps set_spelled set_once p.sets q.sets _ _ h.sets_keep k.sets_keep (set_stops x p.patterns p.width p.decoder p.extracts p.decoder_static _) (set_stops y q.patterns q.width q.decoder q.extracts q.decoder_static _) is in
-    let patterns = parts_once PatternNamed (pattern_spelled x) (pattern_spelled y) (AlikePatterns x y) (pattern_once x y) p.patterns q.patterns _ _ h.patterns_named k.patterns_named (pattern_stops p.width p.decoder p.extracts p.decoder_static _ y) (pattern_stops q.width q.decoder q.extracts q.decoder_static _ x) sets.rest in
-    let extracts = parts_once ExtractionKeeps (extract_spelled p.width p.decoder) (extract_spelled q.width q.decoder) (AlikeExtracts p.decoder q.decoder) (extract_once p.width q.width p.decoder q.decoder) p.extracts q.extracts (decoder_spelled p) (decoder_spelled q) h.extracts_keep k.extracts_keep (extract_stops p.width p.decoder p.decoder_static _ q.width q.decoder) (extract_stops q.width q.decoder q.decoder_static _ p.width p.decoder) patterns.1 in
+    let sets = same_parts SetKeeps set_spelled set_once p.sets q.sets _ _ h.sets k.sets (set_stops x p.patterns p.width p.decoder p.extracts p.decoder_static _) (set_stops y q.patterns q.width q.decoder q.extracts q.decoder_static _) is in
+    let patterns = parts_once PatternNamed (pattern_spelled x) (pattern_spelled y) (AlikePatterns x y) (pattern_once x y) p.patterns q.patterns _ _ h.patterns k.patterns (pattern_stops p.width p.decoder p.extracts p.decoder_static _ y) (pattern_stops q.width q.decoder q.extracts q.decoder_static _ x) sets.rest in
+    let extracts = parts_once ExtractionReads (extract_spelled p.width p.decoder) (extract_spelled q.width q.decoder) (AlikeExtracts p.decoder q.decoder) (extract_once p.width q.width p.decoder q.decoder) p.extracts q.extracts (decoder_spelled p) (decoder_spelled q) h.extracts k.extracts (extract_stops p.width p.decoder p.decoder_static _ q.width q.decoder) (extract_stops q.width q.decoder q.decoder_static _ p.width p.decoder) patterns.1 in
     let head = head_once p.width q.width p.decoder q.decoder p.decoder_static q.decoder_static _ _ extracts.1 in
     let same_patterns = patterns_back x y p.patterns q.patterns patterns.0 in
-    let union = union_once p.patterns p.union_sets q.union_sets _ _ h.union_sets_named k.union_sets_named (head.rest ∙ ap (λ ns. union_spelled ns q.union_sets ++ (stmts_spelled q.width q.decoder y.name q.body ++ decoder_end_spelled)) (sym same_patterns)) in
+    let union = union_once p.patterns p.union_sets q.union_sets _ _ h.union_sets k.union_sets (head.rest ∙ ap (λ ns. union_spelled ns q.union_sets ++ (stmts_spelled q.width q.decoder y.name q.body ++ decoder_end_spelled)) (sym same_patterns)) in
     let prefix = prefix_back p.prefix q.prefix p.patterns h.prefix_with_patterns (subst (λ ns. IsSome q.prefix ↔ (ns ≢ [])) (sym same_patterns) k.prefix_with_patterns) (one_prefix x y p.patterns q.patterns patterns.0) in
     let bodies : stmts_spelled q.width q.decoder y.name p.body ++ decoder_end_spelled ≡ stmts_spelled q.width q.decoder y.name q.body ++ decoder_end_spelled =
     ap (λ w. stmts_spelled w q.decoder y.name p.body ++ decoder_end_spelled) (sym head.width)
@@ -194,7 +195,7 @@ programs_once p q h k is =
     ∙ ap (λ z. stmts_spelled p.width p.decoder (prefix_of z).name p.body ++ decoder_end_spelled) (sym prefix)
     ∙ union.1 in
     let below = subst (λ w. StmtsBelow (2 ^ width_bits w) p.body) head.width h.body_below in
-    let body = stmts_once q.width q.decoder y.name p.body q.body decoder_end_spelled decoder_end_spelled h.body_keeps k.body_keeps below k.body_below refl refl bodies in
+    let body = stmts_once q.width q.decoder y.name p.body q.body decoder_end_spelled decoder_end_spelled h.body k.body below k.body_below refl refl bodies in
     let extract_list = extracts_back p.decoder q.decoder p.extracts q.extracts head.decoder extracts.0 in
     let union_list = union_back p.patterns p.union_sets q.union_sets union.0 h.union_with_patterns (λ e. k.union_with_patterns (sym same_patterns ∙ e)) in
     λ i. record { width = head.width i; sets = sets.same i; prefix = prefix i; patterns = same_patterns i; extracts = extract_list i; decoder = head.decoder i; decoder_static = head.is_static i; union_sets = union_list i; body = body.same i }
@@ -202,5 +203,8 @@ programs_once p q h k is =
 some_same : (x y : List Token) → Some x ≡ Some y → x ≡ y
 some_same x y e = cc
 
+pub same_spelling : (text : List ℕ) (p q : Program) → tokens_of text ≡ Some (spelling p) → tokens_of text ≡ Some (spelling q) → spelling p ≡ spelling q
+same_spelling text p q h k = some_same (spelling p) (spelling q) (sym h ∙ k)
+
 pub law_text_spells_one : (text : List ℕ) (p q : Program) → Spells text p → Spells text q → p ≡ q
-law_text_spells_one text p q s t = programs_once p q s.rules t.rules (some_same (spelling p) (spelling q) (sym s.tokens ∙ t.tokens))
+law_text_spells_one text p q s t = programs_once p q (program_reads p s.rules) (program_reads q t.rules) (same_spelling text p q s.tokens t.tokens)

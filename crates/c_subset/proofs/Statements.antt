@@ -7,11 +7,12 @@ use Rattle.dt_values.specs.Widths.{width_bits}
 use Rattle.c_subset.specs.Tokens.{Token, word, mark, double_equals, arrow}
 use Rattle.dt_text.specs.Hexadecimal.{hex}
 use Rattle.c_subset.specs.Programs.{Name, Stmt, on_mask, extract, assign, call, Stmts, done, then, hex_length, stmt_spelled, stmts_spelled}
-use Rattle.c_subset.specs.Keeps.{StmtKeeps, StmtsKeep, StmtBelow, StmtsBelow}
+use Rattle.c_subset.specs.Keeps.{StmtBelow, StmtsBelow}
 use Rattle.c_subset.proofs.Apart.{first_word, differ, long}
 use Rattle.c_subset.proofs.Assignments.{assign_once}
 use Rattle.c_subset.proofs.Numbers.{word_number_once}
 use Rattle.c_subset.proofs.Parts.{Same}
+use Rattle.c_subset.proofs.Readable.{StmtReads, StmtsRead}
 
 -- what may stand behind statements
 abbrev pub Ends : List Token → Type 0
@@ -53,7 +54,7 @@ some_name : (s t : Name) → Some s ≡ Some t → s ≡ t
 some_name s t e = cc
 
 mutual
-  stmt_once : (w : Width) (d p : Name) (s t : Stmt) (a b : List Token) → StmtKeeps s → StmtKeeps t → StmtBelow (2 ^ width_bits w) s → StmtBelow (2 ^ width_bits w) t → stmt_spelled w d p s ++ a ≡ stmt_spelled w d p t ++ b → Same s t a b
+  stmt_once : (w : Width) (d p : Name) (s t : Stmt) (a b : List Token) → StmtReads s → StmtReads t → StmtBelow (2 ^ width_bits w) s → StmtBelow (2 ^ width_bits w) t → stmt_spelled w d p s ++ a ≡ stmt_spelled w d p t ++ b → Same s t a b
   stmt_once w d p (on_mask m c ss) (on_mask n e ts) a b i j h k is =
       let q = if_parts (hex (hex_length w) m) (hex (hex_length w) c) (hex (hex_length w) n) (hex (hex_length w) e) _ _ is in
       let inner = stmts_once w d p ss ts (mark 125 ∷ a) (mark 125 ∷ b) i j h.2 k.2 tt tt (sym (append_assoc (stmts_spelled w d p ss) (mark 125 ∷ []) a) ∙ q.2 ∙ append_assoc (stmts_spelled w d p ts) (mark 125 ∷ []) b) in
@@ -77,7 +78,7 @@ mutual
   stmt_once w d p (assign s n v) (on_mask m c ss) a b i j h k is = absurd (if_no_assign _ _ (sym is))
   stmt_once w d p (assign s n v) (extract x t) a b i j h k is = absurd (extract_no_assign d x _ _ (sym is))
   stmt_once w d p (assign s n v) (assign t m u) a b i j h k is =
-      let q = assign_once w (Some s) (Some t) n m v u a b i.2 j.2 is in
+      let q = assign_once w (Some s) (Some t) n m v u a b i j is in
       let set : s ≡ t = some_name s t q.set in
       let argument : n ≡ m = q.argument in
       let value : v ≡ u = q.value in
@@ -93,7 +94,7 @@ mutual
       let after : a ≡ b = cc in
       record { same = (cc); rest = after }
 
-  pub stmts_once : (w : Width) (d p : Name) (ss ts : Stmts) (a b : List Token) → StmtsKeep ss → StmtsKeep ts → StmtsBelow (2 ^ width_bits w) ss → StmtsBelow (2 ^ width_bits w) ts → Ends a → Ends b → stmts_spelled w d p ss ++ a ≡ stmts_spelled w d p ts ++ b → Same ss ts a b
+  pub stmts_once : (w : Width) (d p : Name) (ss ts : Stmts) (a b : List Token) → StmtsRead ss → StmtsRead ts → StmtsBelow (2 ^ width_bits w) ss → StmtsBelow (2 ^ width_bits w) ts → Ends a → Ends b → stmts_spelled w d p ss ++ a ≡ stmts_spelled w d p ts ++ b → Same ss ts a b
   stmts_once w d p done done a b i j h k l m e = record { same = refl; rest = e }
   stmts_once w d p done (then t ts) a b i j h k l m e = absurd (no_statement w d p t (stmts_spelled w d p ts ++ b) a l (sym (append_assoc (stmt_spelled w d p t) (stmts_spelled w d p ts) b) ∙ sym e))
   stmts_once w d p (then s ss) done a b i j h k l m e = absurd (no_statement w d p s (stmts_spelled w d p ss ++ a) b m (sym (append_assoc (stmt_spelled w d p s) (stmts_spelled w d p ss) a) ∙ e))

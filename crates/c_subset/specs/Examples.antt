@@ -1,9 +1,9 @@
 -- Texts with their programs, and texts with their tokens (the C subset, docs/C_SUBSET.md).
-use Rattle.std.specs.Prelude.{◌≡◌, ℕ, true, false, List, [], ◌∷◌, codes, negsuc, Some, None}
+use Rattle.std.specs.Prelude.{◌≡◌, ℕ, true, false, List, [], ◌∷◌, ◌++◌, codes, negsuc, Some, None}
 use Rattle.dt_values.specs.declared.width.Width.TheVariants.{W32, W64}
 use Rattle.dt_values.specs.declared.ctype.CType.TheVariants.{Int, U64}
 use Rattle.c_subset.specs.Tokens.{word, mark, double_equals, arrow, tokens_of}
-use Rattle.c_subset.specs.Exprs.{insn, argument, Term, constant, segment, deposit, cast, function, applied, Assignment}
+use Rattle.c_subset.specs.Exprs.{Source, insn, argument, Term, constant, segment, deposit, cast, function, applied, Assignment}
 use Rattle.c_subset.specs.Programs.{Name, Stmts, on_mask, extract, assign, call, done, then, Program}
 use Rattle.c_subset.specs.Spells.{Spells}
 
@@ -139,6 +139,55 @@ assigned_program = record {
 
 abbrev pub assigned_text : List ℕ
 assigned_text = codes "/* Made from pattern files. */\n\ntypedef struct {\n    int a;\n    int b;\n    int c;\n    int d;\n} arg_s;\n\ntypedef arg_s arg_p;\nstatic bool t_p(DisasContext *ctx, arg_p *a);\n\nstatic void g_extract_x(DisasContext *ctx, arg_s *a, uint64_t insn)\n{\n    a->d = sextract64(a->a, 0, 8);\n}\n\nstatic bool g(DisasContext *ctx, uint64_t insn)\n{\n    union {\n        arg_s f_s;\n    } u;\n\n    u.f_s.a = -5;\n    u.f_s.b = f(ctx);\n    u.f_s.c = f(ctx, extract64(u.f_s.a, 0, 4));\n    g_extract_x(ctx, &u.f_s, insn);\n    if (t_p(ctx, &u.f_s)) return true;\n    return false;\n}\n"
+
+-- an assignment in an extraction and one in the decoder, each of the low bits of an argument that is named so
+abbrev pub low_bits_of : Source → Term
+low_bits_of from = segment false from 0 4
+
+abbrev pub placed_program : Source → Source → Program
+placed_program extracted decoded = record {
+  width = W64;
+  sets = record {
+    name = codes "s";
+    members = record { ctype = Int; name = codes "a" } ∷ record { ctype = Int; name = codes "b" } ∷ [];
+    outside = false;
+  } ∷ [];
+  prefix = Some (record { name = codes "t"; is_static = true });
+  patterns = record { name = codes "p"; set = codes "s" } ∷ [];
+  extracts = record {
+    format = codes "x";
+    set = codes "s";
+    assigns = record { argument = codes "b"; value = low_bits_of extracted } ∷ [];
+  } ∷ [];
+  decoder = codes "g";
+  decoder_static = true;
+  union_sets = codes "s" ∷ [];
+  body =
+      then (assign (codes "s") (codes "b") (low_bits_of decoded))
+      (then (extract (codes "x") (codes "s"))
+      (then (call (codes "p") (codes "s"))
+      done));
+}
+
+abbrev pub placed_text : List ℕ → List ℕ → List ℕ
+placed_text extracted decoded =
+    codes "typedef struct {\n    int a;\n    int b;\n} arg_s;\n\ntypedef arg_s arg_p;\nstatic bool t_p(DisasContext *ctx, arg_p *a);\n\nstatic void g_extract_x(DisasContext *ctx, arg_s *a, uint64_t insn)\n{\n    a->b = extract64("
+    ++ extracted
+    ++ codes ", 0, 4);\n}\n\nstatic bool g(DisasContext *ctx, uint64_t insn)\n{\n    union {\n        arg_s f_s;\n    } u;\n\n    u.f_s.b = extract64("
+    ++ decoded
+    ++ codes ", 0, 4);\n    g_extract_x(ctx, &u.f_s, insn);\n    if (t_p(ctx, &u.f_s)) return true;\n    return false;\n}\n"
+
+abbrev pub in_extraction : Source
+in_extraction = argument None (codes "a")
+
+abbrev pub in_decoder : Source
+in_decoder = argument (Some (codes "s")) (codes "a")
+
+-- an extraction names no set, and the decoder names one
+pub record PlaceExamples : Type 0 where
+  pub in_place : Spells (placed_text (codes "a->a") (codes "u.f_s.a")) (placed_program in_extraction in_decoder)
+  pub set_in_extraction : (p : Program) → ¬ Spells (placed_text (codes "u.f_s.a") (codes "u.f_s.a")) p
+  pub no_set_in_decoder : (p : Program) → ¬ Spells (placed_text (codes "a->a") (codes "a->a")) p
 
 abbrev pub Nop : Type 0
 Nop = Spells nop_text nop_program

@@ -1,5 +1,5 @@
 -- The rules that expressions of a program keep (docs/C_SUBSET.md, "Expressions").
-use Rattle.std.specs.Prelude.{◌≡◌, ℕ, ◌<◌, ◌^◌, Bool, true, false, not, IsTrue, List, ℤ, pos, negsuc, Option, Some, None}
+use Rattle.std.specs.Prelude.{◌≡◌, ℕ, ◌<◌, ◌^◌, Bool, true, false, not, IsTrue, List, ℤ, pos, negsuc, Option, Some, None, is_some}
 use Rattle.dt_values.specs.Names.{IsName}
 use Rattle.c_subset.specs.Exprs.{Source, insn, argument, Term, constant, segment, deposit, cast, function, applied, Assignment}
 
@@ -61,6 +61,22 @@ pub record TermKeeps (e : Term) : Type 0 where
   pub form : HasForm e
   pub names : HasNames e
 
+-- in the decoder an argument is named with its set, and in an extraction alone
+abbrev pub SourceStands : Bool → Source → Type 0
+SourceStands in_decoder insn = Unit {0}
+SourceStands in_decoder (argument set name) = is_some set ≡ in_decoder
+
+-- each argument in an expression is named as where the expression stands
+abbrev pub StandsIn : Bool → Term → Type 0
+StandsIn in_decoder (constant z) = Unit {0}
+StandsIn in_decoder (segment signed from place length) = SourceStands in_decoder from
+StandsIn in_decoder (deposit into place length part) = StandsIn in_decoder into × StandsIn in_decoder part
+StandsIn in_decoder (cast e) = StandsIn in_decoder e
+StandsIn in_decoder (function name) = Unit {0}
+StandsIn in_decoder (applied name e) = StandsIn in_decoder e
+
+-- of an extraction
 pub record AssignmentKeeps (a : Assignment) : Type 0 where
   pub argument : IsName a.argument
   pub value : TermKeeps a.value
+  pub place : StandsIn false a.value

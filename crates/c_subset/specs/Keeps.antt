@@ -1,5 +1,5 @@
 -- The rules that each program of the C subset keeps (the C subset, docs/C_SUBSET.md).
-use Rattle.std.specs.Prelude.{◌≡◌, ◌≢◌, ◌↔◌, ℕ, ◌<◌, ◌≤◌, ◌^◌, false, List, [], map, length, IsSome, IfSome}
+use Rattle.std.specs.Prelude.{◌≡◌, ◌≢◌, ◌↔◌, ℕ, ◌<◌, ◌≤◌, ◌^◌, true, false, List, [], map, length, IsSome, IfSome}
 use Rattle.std.specs.List.{All, AllPairs}
 use Rattle.dt_values.specs.Names.{IsName}
 use Rattle.dt_values.specs.Widths.{width_bits}
@@ -8,7 +8,7 @@ use Rattle.dt_values.specs.declared.ctype.CType.{CType}
 use Rattle.dt_values.specs.declared.ctype.CType.TheVariants.{Other}
 use Rattle.dt_fields.specs.declared.set.SetDef.{SetDef}
 use Rattle.dt_fields.specs.declared.set.TheConstants.{MOST_ARGUMENTS}
-use Rattle.c_subset.specs.ExprForms.{AssignmentKeeps, TermKeeps}
+use Rattle.c_subset.specs.ExprForms.{AssignmentKeeps, StandsIn, TermKeeps}
 use Rattle.c_subset.specs.Programs.{Name, Stmt, on_mask, extract, assign, call, Stmts, done, then, Pattern, Extraction, Program}
 
 abbrev pub AllDiffer : List Name → Type 0
@@ -42,7 +42,7 @@ abbrev mutual
   pub StmtKeeps : Stmt → Type 0
   StmtKeeps (on_mask m v ss) = StmtsKeep ss
   StmtKeeps (extract x s) = IsName x × IsName s
-  StmtKeeps (assign s a e) = IsName s × IsName a × TermKeeps e
+  StmtKeeps (assign s a e) = IsName s × IsName a × TermKeeps e × StandsIn true e
   StmtKeeps (call n s) = IsName n × IsName s
 
   pub StmtsKeep : Stmts → Type 0

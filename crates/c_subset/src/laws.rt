@@ -5,7 +5,7 @@ ghost use Rattle.c_subset.specs.Tokens.{Token, tokens_of};
 ghost use Rattle.c_subset.specs.Lexed.{IsLexed};
 ghost use Rattle.c_subset.specs.Programs.{Program};
 ghost use Rattle.c_subset.specs.Spells.{Spells};
-ghost use Rattle.c_subset.specs.Examples.{Nop, Empty, Arguments, Branch, Assigned, TokenExamples};
+ghost use Rattle.c_subset.specs.Examples.{Nop, Empty, Arguments, Branch, Assigned, PlaceExamples, TokenExamples};
 
 /// The tokens that are read of a text are those that the lexical rules give it.
 pub fn law_text_is_lexed()
@@ -18,7 +18,7 @@ pub fn law_text_spells_one()
     ensures { (text : List ℕ) (p q : Program) → Spells text p → Spells text q → p ≡ q }
 {}
 
-/// Texts with their programs and their tokens.
+/// Texts with their programs and their tokens, and texts that spell no program.
 pub fn examples()
     ensures tokens { TokenExamples }
     ensures empty { Empty }
@@ -26,4 +26,5 @@ pub fn examples()
     ensures arguments { Arguments }
     ensures branch { Branch }
     ensures assigned { Assigned }
+    ensures places { PlaceExamples }
 {}

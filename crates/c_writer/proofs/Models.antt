@@ -38,6 +38,7 @@ use Rattle.c_eval.specs.Meaning.{helper_bits}
 use Rattle.c_eval.specs.Runs.{assigns_in}
 use Rattle.c_fields.specs.Values.{HasRoom}
 use Rattle.c_fields.specs.Written.{assignment_of}
+use Rattle.c_fields.proofs.Forms.{value_stands}
 use Rattle.c_writer.specs.Parts.{Parts, set_name, set_members, format_name, assignments_of, extraction_of, named_pattern, parts_of, patterns_in}
 use Rattle.c_writer.specs.Chain.{chain_program}
 use Rattle.c_writer.specs.Decoders.{IsDecoder}
@@ -135,7 +136,7 @@ assignment_keeps : (w : Width) (name : Name) (o : Option FieldValue) (vs all : G
 assignment_keeps w name None vs all named is sound h = h
 assignment_keeps w name (Some given) vs all named is sound h =
     let keeps : IsSoundValue (width_bits w) given = given_has (IsSoundValue (width_bits w)) all name given sound is in
-    All-cons AssignmentKeeps (assignment_of (helper_bits w) (name, given)) (map (assignment_of (helper_bits w)) vs) (record { argument = named; value = value_keeps w given keeps }) h
+    All-cons AssignmentKeeps (assignment_of (helper_bits w) (name, given)) (map (assignment_of (helper_bits w)) vs) (record { argument = named; value = value_keeps w given keeps; place = value_stands (helper_bits w) None given }) h
 
 assignments_keep : (w : Width) (ms : List Member) (vs : GivenValues) → All (λ m. IsName m.name) ms → All (λ v. IsSoundValue (width_bits w) v.1) vs → All AssignmentKeeps (assignments_of (helper_bits w) ms vs)
 assignments_keep w [] vs named sound = All-nil _
