@@ -273,3 +273,102 @@ fn an_extraction_assigns_in_the_order_of_the_set(rt: HostRuntime) -> Result<(), 
     assert_eq!(rt; written.as_slice(), WITH_VALUES.as_bytes());
     Ok(())
 }
+
+const AT_64_BITS: &str = "/* Made from pattern files. */
+
+typedef struct {
+    int k;
+    int i;
+} arg_decode0;
+
+typedef arg_decode0 arg_q;
+static bool trans_q(DisasContext *ctx, arg_q *a);
+
+static void decode_extract_decode_Fmt_0(DisasContext *ctx, arg_decode0 *a, uint64_t insn)
+{
+    a->k = extract64(insn, 7, 56);
+    a->i = (int64_t)deposit64(extract64(insn, 0, 7), 7, 57, sextract64(insn, 63, 1));
+}
+
+static bool decode(DisasContext *ctx, uint64_t insn)
+{
+    union {
+        arg_decode0 f_decode0;
+    } u;
+
+    /* 1:2 */
+    decode_extract_decode_Fmt_0(ctx, &u.f_decode0, insn);
+    if (trans_q(ctx, &u.f_decode0)) return true;
+    return false;
+}
+";
+
+const AT_16_BITS: &str = "/* Made from pattern files. */
+
+typedef struct {
+    int k;
+    int w;
+} arg_decode0;
+
+typedef arg_decode0 arg_p;
+static bool trans_p(DisasContext *ctx, arg_p *a);
+
+static void decode_extract_decode_Fmt_0(DisasContext *ctx, arg_decode0 *a, uint16_t insn)
+{
+    a->k = sextract32(insn, 8, 6);
+    a->w = deposit32(extract32(insn, 4, 4), 4, 28, extract32(insn, 0, 4));
+}
+
+static bool decode(DisasContext *ctx, uint16_t insn)
+{
+    union {
+        arg_decode0 f_decode0;
+    } u;
+
+    if ((insn & 0xc000) == 0x8000) {
+        /* 1:2 */
+        decode_extract_decode_Fmt_0(ctx, &u.f_decode0, insn);
+        if (trans_p(ctx, &u.f_decode0)) return true;
+    }
+    return false;
+}
+";
+
+fn options_at(width: Width) -> Options
+    ensures options { IsOptions result }
+    ensures width { result.width ≡ width }
+{
+    Options {
+        width,
+        ..Options::default()
+    }
+}
+
+#[test]
+fn helpers_have_64_bits_at_64_bits_alone(rt: HostRuntime) -> Result<(), Fail> {
+    let alloc = rt.alloc();
+    let table = [
+        (
+            Width::W64,
+            "%i 63:s1 0:7\nq . k:56 ....... %i\n",
+            AT_64_BITS,
+        ),
+        (
+            Width::W16,
+            "%v 0:4 4:4\np 10 k:s6 ........ w=%v\n",
+            AT_16_BITS,
+        ),
+    ];
+    for (width, file, expected) in table {
+        if file.len() > 100 {
+            return Err("too long".into());
+        }
+        let bytes = Vec::from_slice(alloc, file.as_bytes())?;
+        let files = [Source::read(alloc, 0, bytes)?];
+        let options = options_at(width);
+        let model = read_model(alloc, &options, files.as_slice())?;
+        let written = text(alloc, &model, &options)?;
+        assert_eq!(rt; written.as_slice(), expected.as_bytes());
+    }
+    Ok(())
+}
