@@ -8,30 +8,10 @@ use Rattle.std.proofs.lemmas.List.Folds.{list_any-append}
 use Rattle.std.proofs.lemmas.Map.Steps.{list_any_congr}
 use Rattle.indexmap.specs.IndexSet.{insert_key}
 use Rattle.dt_values.specs.Types.{is_text}
+use Rattle.dt_fields.proofs.AmongNames.{among-insert_key, or_one}
 use Rattle.c_subset.specs.Programs.{Name, Extraction}
 use Rattle.c_writer.specs.Parts.{NamedPattern}
 use Rattle.c_writer.specs.Uses.{is_format_used, is_among}
-
--- a name that is there already changes nothing
-again : (names : List Name) (n x : Name) (b : Bool) → is_text x n ≡ b → is_among names n ≡ true → is_among names x ≡ (is_among names x || b)
-again names n x true same there = rw (list_any_congr nat_list_eq_equiv x n names same ∙ there) refl
-again names n x false other there = or_false (is_among names x)
-  where
-    or_false : (c : Bool) → c ≡ (c || false)
-    or_false true = refl
-    or_false false = refl
-
-or_one : (a b : Bool) → (a || (b || false)) ≡ (a || b)
-or_one true b = refl
-or_one false true = refl
-or_one false false = refl
-
-insert_by : (names : List Name) (n x : Name) (b : Bool) → is_among names n ≡ b → is_among (if b then names else names ++ n ∷ []) x ≡ (is_among names x || is_text x n)
-insert_by names n x true there = again names n x (is_text x n) refl there
-insert_by names n x false there = list_any-append (is_text x) names (n ∷ []) ∙ or_one (is_among names x) (is_text x n)
-
-among-insert_key : (names : List Name) (n x : Name) → is_among (insert_key (pointwise nat_eq) names n) x ≡ (is_among names x || is_text x n)
-among-insert_key names n x = insert_by names n x (is_among names n) refl
 
 -- names that tell which ones the items of a list have
 abbrev pub TellNames : {X : Type 0} → (X → Name) → List Name → List X → Type 0

@@ -1,4 +1,5 @@
 pub mod Added
+pub mod AmongNames
 pub mod Cuts
 pub mod Decimals
 pub mod FieldLines

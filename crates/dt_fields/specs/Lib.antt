@@ -1,4 +1,5 @@
 pub mod RuleTexts
+pub mod Arguments
 pub mod CNames
 pub mod Cuts
 pub mod Faults

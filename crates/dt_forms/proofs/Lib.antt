@@ -1,5 +1,7 @@
 pub mod BinaryNumbers
 pub mod PatternDigits
+pub mod PatternNames
+pub mod NewArguments
 pub mod Gathering
 pub mod Faults
 pub mod ReadLines

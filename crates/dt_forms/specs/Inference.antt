@@ -9,6 +9,7 @@ use Rattle.dt_values.specs.Widths.{width_bits}
 use Rattle.dt_values.specs.declared.ctype.CType.{CType}
 use Rattle.dt_values.specs.declared.ctype.CType.TheVariants as c
 use Rattle.dt_values.specs.declared.ctype.Member.{Member}
+use Rattle.dt_fields.specs.Arguments.{has_argument}
 use Rattle.dt_fields.specs.SetLines.{has_member}
 use Rattle.dt_fields.specs.SetsByName.{place_of_set, set_at}
 use Rattle.dt_fields.specs.declared.field.FieldDef.{FieldDef}
@@ -46,6 +47,10 @@ has_exactly values set =
 -- the number of the first such set, or that of a new one
 abbrev pub matching_set : GivenValues → List SetDef → ℕ
 matching_set values sets = position_or_len (has_exactly values) sets
+
+-- one of these arguments is none of a set
+abbrev pub has_new_argument : GivenValues → List SetDef → Bool
+has_new_argument values sets = list_any (λ v. not (has_argument sets v.0)) values
 
 -- the set that a line names, or else one by its arguments
 abbrev pub set_chosen : List SetDef → GivenValues → Option (List ℕ) → ℕ

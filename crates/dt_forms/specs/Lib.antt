@@ -15,6 +15,7 @@ pub mod Rules
 pub mod View
 pub mod Trees
 pub mod Models
+pub mod Names
 pub mod FileFaults
 pub mod Positions
 pub mod Sources

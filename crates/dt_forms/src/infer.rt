@@ -10,7 +10,7 @@ ghost use Rattle.dt_fields.specs.SetLines.{has_member};
 ghost use Rattle.dt_fields.specs.declared.segment.Segment.TheVariants.{Bits, Named};
 ghost use Rattle.dt_fields.specs.declared.set.SetDef.{SetDef};
 ghost use Rattle.dt_forms.specs.ElementRows.{has_value};
-ghost use Rattle.dt_forms.specs.Inference.{choice_of, fits_pattern, gives, has_exactly, has_fields_of, is_int};
+ghost use Rattle.dt_forms.specs.Inference.{choice_of, fits_pattern, gives, has_exactly, has_fields_of, has_new_argument, is_int};
 ghost use Rattle.dt_forms.specs.Inference.{matching_format, matching_set, name_where, same_field, same_function};
 ghost use Rattle.dt_forms.specs.Inference.{same_segment, same_sign, same_value, set_chosen};
 ghost use Rattle.dt_forms.specs.Options.{IsOptionName};
@@ -76,8 +76,25 @@ fn set_chosen(sets: &Sets, values: &[(Name, FieldValue)], name: Option<Name>) ->
     }
 }
 
-// The number of the first set with exactly these arguments, all of type `int`, or that of a new one.
+// The number of the first set with exactly these arguments, all of type `int`, or that of a new one. Where an argument
+// is new, so is the set.
 fn matching_set(values: &[(Name, FieldValue)], sets: &Sets) -> usize
+    ensures { result ≡ matching_set values.now sets.now }
+{
+    if has_new_argument(values, sets) {
+        return sets.count();
+    }
+    first_match(values, sets)
+}
+
+// Whether one of these arguments is none of a set.
+fn has_new_argument(values: &[(Name, FieldValue)], sets: &Sets) -> bool
+    ensures { result ≡ has_new_argument values.now sets.now }
+{
+    values.iter().any(|value| !sets.has_argument(&value.0))
+}
+
+fn first_match(values: &[(Name, FieldValue)], sets: &Sets) -> usize
     ensures { result ≡ matching_set values.now sets.now }
 {
     for place in 0..sets.count() {

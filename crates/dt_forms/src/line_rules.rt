@@ -177,13 +177,7 @@ fn check_names(scope: &Scope, choice: &Choice, name: Name) -> Result<(), DefFaul
 fn is_set_name_taken(scope: &Scope, name: Name) -> bool
     ensures { result ≡ is_set_name_taken scope.now name }
 {
-    scope.sets().get(name).is_some() || has_name(scope.patterns().names(), name)
-}
-
-fn has_name(names: &[Name], name: Name) -> bool
-    ensures { result ≡ list_any (is_text name) names.now }
-{
-    names.iter().any(|other| name == *other)
+    scope.sets().get(name).is_some() || scope.patterns().has_name(&name)
 }
 
 // Whether a format has the name.
@@ -210,12 +204,17 @@ fn has_set_name(sets: &Sets, set: u32, name: Name) -> bool
     }
 }
 
-// Whether an earlier pattern of the name has a set of another number.
+// Whether an earlier pattern of the name has a set of another number. A new name takes no look at the patterns.
 fn has_other_set(formats: &[Format], patterns: &Patterns, set: u32, name: Name) -> bool
     ensures { result ≡ has_other_set formats.now patterns.now set name }
 {
-    patterns.items().iter().any(|pattern| set_number(formats, pattern) != set
-        && name == pattern.name)
+    patterns.has_name(&name) && is_of_other_set(formats, patterns.items(), set, name)
+}
+
+fn is_of_other_set(formats: &[Format], patterns: &[Pattern], set: u32, name: Name) -> bool
+    ensures { result ≡ has_other_set formats.now patterns.now set name }
+{
+    patterns.iter().any(|pattern| set_number(formats, pattern) != set && name == pattern.name)
 }
 
 // The number of a pattern's set.

@@ -1,22 +1,28 @@
 //! The patterns that are read so far.
 
-ghost use Rattle.std.specs.Prelude.{◌≡◌, ◌++◌, ◌∷◌, [], OnOk};
+ghost use Rattle.std.specs.Prelude.{◌≡◌, ◌++◌, ◌∷◌, [], OnOk, OnErr};
+ghost use Rattle.std.specs.List.{list_any};
+ghost use Rattle.dt_values.specs.Types.{is_text};
+ghost use Rattle.dt_forms.specs.Names.{IsSetOf};
 ghost use Rattle.dt_forms.specs.Scope.{pattern_names};
 
 use crate::form::Pattern;
 use dt_values::Name;
+use indexmap::IndexSet;
 use std::alloc::{AllocError, Global};
 use std::marker::Model;
 
-/// Patterns in file order, with their names beside them. Contracts see the list of the patterns.
+/// Patterns in file order, with their names beside them, in order and as a set. Contracts see the list of the patterns.
 #[derive(Drop)]
 pub struct Patterns {
     items: Vec<Pattern>,
     names: Vec<Name>,
+    name_set: IndexSet<Name>,
 }
 
 impl Model for Patterns {
     ghost use Rattle.std.specs.Prelude.{◌≡◌, List};
+    ghost use Rattle.dt_forms.specs.Names.{IsSetOf};
     ghost use Rattle.dt_forms.specs.Scope.{pattern_names};
     ghost use Rattle.dt_forms.specs.declared.form.Pattern.{Pattern};
 
@@ -24,7 +30,9 @@ impl Model for Patterns {
 
     ghost view = { λ patterns. patterns.items.items };
 
-    ghost invariant = { λ patterns. patterns.names.items ≡ pattern_names patterns.items.items };
+    ghost invariant = { λ patterns.
+        (patterns.names.items ≡ pattern_names patterns.items.items)
+        × IsSetOf patterns.names.items patterns.name_set.keys };
 }
 
 impl Patterns {
@@ -35,6 +43,7 @@ impl Patterns {
         Patterns {
             items: Vec::new(alloc),
             names: Vec::new(alloc),
+            name_set: IndexSet::new(alloc),
         }
     }
 
@@ -52,6 +61,13 @@ impl Patterns {
         self.names.as_slice()
     }
 
+    /// Whether a pattern has this name.
+    pub fn has_name(&self, name: &Name) -> bool
+        ensures { result ≡ list_any (is_text name.now) (pattern_names self.now) }
+    {
+        self.name_set.contains(name)
+    }
+
     /// The patterns as a list of their own.
     pub fn into_items(self) -> Vec<Pattern>
         ensures { result.items ≡ self }
@@ -63,13 +79,35 @@ impl Patterns {
     pub fn push(&mut self, pattern: Pattern) -> Result<(), AllocError>
         ensures { OnOk result (self.new ≡ self.old ++ pattern ∷ []) }
     {
-        self.names.push(pattern.name)?;
-        match self.items.push(pattern) {
+        let name = pattern.name;
+        self.items.push(pattern)?;
+        match push_name(&mut self.names, &mut self.name_set, name) {
             Ok(()) => Ok(()),
             Err(_) => {
-                let _name = self.names.pop();
+                let _pattern = self.items.pop();
                 Err(AllocError)
             }
+        }
+    }
+}
+
+// Puts a name last, and in the set of the names.
+fn push_name(
+    names: &mut Vec<Name>,
+    name_set: &mut IndexSet<Name>,
+    name: Name,
+) -> Result<(), AllocError>
+    requires { IsSetOf names.old.items name_set.old.keys }
+    ensures pushed { OnOk result (names.new.items ≡ names.old.items ++ name ∷ []) }
+    ensures unchanged { OnErr result (names.new.items ≡ names.old.items) }
+    ensures set { IsSetOf names.new.items name_set.new.keys }
+{
+    names.push(name)?;
+    match name_set.insert(name) {
+        Ok(_) => Ok(()),
+        Err(_) => {
+            let _name = names.pop();
+            Err(AllocError)
         }
     }
 }

@@ -1,15 +1,7 @@
-use Rattle.std.proofs.Common.{length, sym, ◌∙◌, arith, false, []}
-use Rattle.std.proofs.lemmas.List.Sums.{position_or_len_is}
-use Rattle.dt_fields.specs.declared.set.SetDef.{SetDef}
-use Rattle.dt_forms.specs.Inference.{has_exactly}
+use Rattle.std.proofs.Common.{◌∙◌, sym}
+use Rattle.dt_forms.proofs.NewArguments.{none_matches}
 use Rattle.dt_forms.proofs.infer.matching_set.Goals as goal
 
-pub returns-then-is_match : goal.returns-then-is_match
-returns-then-is_match c =
-    let d : SetDef = record { name = []; members = []; outside = false } in
-    sym (position_or_len_is (has_exactly c.args.values.now) c.args.sets.now c.loop-place.place d (omega arith) (c.loop-place.invariant d) (λ h. sym (c.is_match.ensures d) ∙ c.if-is_match.true))
-
-pub returns : goal.returns
-returns c =
-    let d : SetDef = record { name = []; members = []; outside = false } in
-    c.count.ensures ∙ sym (position_or_len_is (has_exactly c.args.values.now) c.args.sets.now (length c.args.sets.now) d (omega arith) (λ k h. c.loop-place.invariant d k (omega arith)) (λ h. absurd (omega arith)))
+pub returns-then-has_new_argument : goal.returns-then-has_new_argument
+returns-then-has_new_argument c =
+    c.count.ensures ∙ sym (none_matches c.args.values.now c.args.sets.now (sym c.has_new_argument.ensures ∙ c.if-has_new_argument.true))
