@@ -127,14 +127,19 @@ fn a_line_gives_at_most_32_arguments(rt: HostRuntime) -> Result<(), Fail> {
     Ok(())
 }
 
-// The field that an argument of a format gets.
-fn field_of<'a>(
-    values: &'a [(Name, FieldValue)],
-    place: usize,
-) -> Result<(Name, &'a FieldDef), Fail> {
+// The field that the argument at a place gets.
+fn field_at(values: &[(Name, FieldValue)], place: usize) -> Result<&FieldDef, Fail> {
     match values.get(place) {
-        Some((name, FieldValue::Field(field))) => Ok((*name, field)),
+        Some((_, FieldValue::Field(field))) => Ok(field),
         _ => Err("no field".into()),
+    }
+}
+
+// The name of that argument.
+fn name_at(values: &[(Name, FieldValue)], place: usize) -> Result<Name, Fail> {
+    match values.get(place) {
+        Some((name, _)) => Ok(*name),
+        None => Err("no argument".into()),
     }
 }
 
@@ -153,8 +158,9 @@ fn arguments_get_the_bits_at_their_place(rt: HostRuntime) -> Result<(), Fail> {
     let [format] = model.formats.items() else {
         return Err("a format".into());
     };
-    let (name, imm) = field_of(format.values.items(), 0)?;
-    assert_eq!(rt; name.as_str(), "imm");
+    let values = format.values.items();
+    let imm = field_at(values, 0)?;
+    assert_eq!(rt; name_at(values, 0)?.as_str(), "imm");
     assert_eq!(rt;
         imm.segments.items(),
         [Segment::Bits {
@@ -165,8 +171,8 @@ fn arguments_get_the_bits_at_their_place(rt: HostRuntime) -> Result<(), Fail> {
         .as_slice()
     );
     assert!(rt; imm.function.is_none());
-    let (name, f) = field_of(format.values.items(), 1)?;
-    assert_eq!(rt; name.as_str(), "f");
+    let f = field_at(values, 1)?;
+    assert_eq!(rt; name_at(values, 1)?.as_str(), "f");
     assert_eq!(rt;
         f.segments.items(),
         [
