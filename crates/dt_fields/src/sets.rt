@@ -32,7 +32,7 @@ impl Model for Sets {
     ghost view = { λ sets. values_of sets.map.entries };
 
     ghost invariant = { λ sets.
-        Keyed sets.map.entries × AreArgumentsAmong sets.arguments.keys (values_of sets.map.entries) };
+        Keyed (λ set. set.name) sets.map.entries × AreArgumentsAmong sets.arguments.keys (values_of sets.map.entries) };
 }
 
 impl Sets {

@@ -36,6 +36,13 @@ impl<T> Items<T> {
     {
         self.items.as_slice()
     }
+
+    /// The items as a list of their own, in the same order.
+    pub fn into_items(self) -> Vec<T>
+        ensures { result.items ≡ self }
+    {
+        self.items
+    }
 }
 
 impl<T: Drop> Items<T> {
