@@ -4,8 +4,8 @@ use Rattle.dt_fields.specs.Segments.{segment_length, total_length}
 use Rattle.dt_fields.specs.declared.field.FieldDef.{FieldDef}
 use Rattle.dt_fields.specs.declared.segment.Segment.{Segment}
 use Rattle.dt_fields.specs.declared.segment.Segment.TheVariants.{Bits, Named}
-use Rattle.dt_forms.specs.declared.value.FieldValue.{FieldValue}
-use Rattle.dt_forms.specs.declared.value.FieldValue.TheVariants.{Field, Constant}
+use Rattle.dt_scope.specs.declared.value.FieldValue.{FieldValue}
+use Rattle.dt_scope.specs.declared.value.FieldValue.TheVariants.{Field, Constant}
 use Rattle.c_subset.specs.Exprs.{Source, insn, argument, Term, constant, segment, deposit, cast, function, applied, Assignment}
 use Rattle.dt_match.specs.FieldValues.{has_sign}
 use Rattle.c_eval.specs.Meaning.{Place}
@@ -52,9 +52,9 @@ abbrev pub value_term : ℕ → Option (List ℕ) → FieldValue → Term
 value_term n set (Field field) = field_term n set field
 value_term n set (Constant z) = constant z
 
--- what an extraction assigns to an argument
-abbrev pub assignment_of : ℕ → List ℕ × FieldValue → Assignment
-assignment_of n v = record { argument = v.0; value = value_term n None v.1 }
+-- what is assigned to an argument
+abbrev pub assignment_of : ℕ → Option (List ℕ) → List ℕ × FieldValue → Assignment
+assignment_of n set v = record { argument = v.0; value = value_term n set v.1 }
 
 -- the arguments that segments name hold these values, where the expression is evaluated
 abbrev pub IsShown : Option (List ℕ) → Place → (List ℕ → ℤ) → Segment → Type 0

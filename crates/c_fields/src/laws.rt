@@ -5,7 +5,7 @@ ghost use Rattle.dt_values.specs.Widths.{width_bits};
 ghost use Rattle.dt_values.specs.declared.width.Width.{Width};
 ghost use Rattle.dt_fields.specs.SoundFields.{IsSoundField};
 ghost use Rattle.dt_fields.specs.declared.field.FieldDef.{FieldDef};
-ghost use Rattle.dt_forms.specs.declared.value.FieldValue.{FieldValue};
+ghost use Rattle.dt_scope.specs.declared.value.FieldValue.{FieldValue};
 ghost use Rattle.c_subset.specs.ExprForms.{ArgumentNamed, HasNames, StandsIn, TermKeeps};
 ghost use Rattle.c_subset.specs.ExprSpelling.{assign_spelled};
 ghost use Rattle.c_subset.specs.Exprs.{Term};

@@ -1,7 +1,7 @@
 //! Lines of assignments, byte for byte (docs/C_SUBSET.md, "Expressions").
 
 ghost use Rattle.std.specs.Prelude.{◌≡◌, IfOk};
-ghost use Rattle.dt_forms.specs.declared.value.FieldValue.TheVariants.{Field};
+ghost use Rattle.dt_scope.specs.declared.value.FieldValue.TheVariants.{Field};
 ghost use Rattle.c_eval.specs.Meaning.{helper_bits};
 ghost use Rattle.c_fields.specs.Values.{HasRoom, HaveRoom};
 

@@ -1,4 +1,4 @@
--- After an extraction each argument of a set holds its value.
+-- After an extraction, and after assignments of the decoder, each argument that they assign holds its value.
 use Rattle.std.proofs.Common.{◌≡◌, ℕ, ◌<◌, ◌*◌, ◌+◌, ◌^◌, Bool, true, false, cond, List, [], ◌∷◌, length, map, ℤ, pos, Option, Some, None, option_map, option_and_then, refl, sym, subst, ap, ap₂, ◌∙◌}
 use Rattle.std.specs.Prelude.{All, IsSome}
 use Rattle.std.proofs.lemmas.List.Elements.{All-cons, All-head, All-nil, All-tail, All-weaker}
@@ -13,16 +13,16 @@ use Rattle.dt_values.specs.declared.width.Width.{Width}
 use Rattle.dt_fields.specs.Segments.{total_length}
 use Rattle.dt_fields.specs.declared.segment.Segment.{Segment}
 use Rattle.dt_fields.specs.declared.segment.Segment.TheVariants.{Bits, Named}
-use Rattle.dt_forms.specs.Patterns.{GivenValues}
+use Rattle.dt_scope.specs.Patterns.{GivenValues}
+use Rattle.dt_scope.specs.declared.value.FieldValue.{FieldValue}
+use Rattle.dt_scope.specs.declared.value.FieldValue.TheVariants.{Field, Constant}
 use Rattle.dt_forms.specs.Sound.{IsOfWord, IsSoundValue}
-use Rattle.dt_forms.specs.declared.value.FieldValue.{FieldValue}
-use Rattle.dt_forms.specs.declared.value.FieldValue.TheVariants.{Field, Constant}
 use Rattle.dt_match.specs.Arguments.{given_in, held_at, held_in, stored_as, type_in, value_by, value_of}
 use Rattle.dt_match.specs.FieldValues.{Answers, answered, has_sign, joined, raw_value, segment_bits}
-use Rattle.c_subset.specs.Exprs.{Term}
+use Rattle.c_subset.specs.Exprs.{Assignment, Term}
 use Rattle.c_subset.specs.Programs.{Name}
 use Rattle.c_eval.specs.Meaning.{Place, helper_bits, value_at}
-use Rattle.c_eval.specs.Runs.{Held, all_assigned, all_values, assigned, place_in_extraction, put}
+use Rattle.c_eval.specs.Runs.{Held, all_assigned, all_values, assigned, in_extraction, put}
 use Rattle.c_fields.specs.Written.{assignment_of, value_term}
 use Rattle.c_writer.specs.Parts.{assignments_of}
 use Rattle.c_writer.specs.SetOrder.{given_before, in_set_order}
@@ -98,51 +98,97 @@ put_keeps value m n held h = put_by value m n held (is_text n m) refl h
 put_there : (value : Name → ℤ) (m : Name) (held : Held) → put m (value m) held m ≡ Some (value m)
 put_there value m held = ap (λ b. cond b (Some (value m)) (held m)) (text_itself m)
 
--- after assignments these arguments hold their values, and others that held theirs do so still
-pub record Filled (assigned_to : Held → Option Held) (value : Name → ℤ) (ms : List Member) (held : Held) : Type 0 where
+-- what an expression sees of arguments, by what the arguments of the set hold
+abbrev pub Shown : Type 0
+Shown = Held → Option Name → Name → Option ℤ
+
+abbrev pub place_by : ℕ → ℕ → Answers → Shown → Held → Place
+place_by bits word answer shown held = record { bits = bits; word = word; held = shown held; answer = answer }
+
+-- assignments in order, wherever they stand
+abbrev pub assigned_by : ℕ → ℕ → Answers → Shown → List Member → List Assignment → Held → Option Held
+assigned_by bits word answer shown members [] held = Some held
+assigned_by bits word answer shown members (a ∷ more) held =
+    option_and_then (assigned_by bits word answer shown members more)
+    (assigned (place_by bits word answer shown held) (type_in members a.argument) a.argument a.value held)
+
+then_same : {X Y : Type 0} (f g : X → Option Y) → ((x : X) → f x ≡ g x) → (o : Option X) → option_and_then f o ≡ option_and_then g o
+then_same f g same None = refl
+then_same f g same (Some x) = same x
+
+-- those of an extraction
+pub extraction_assigns : (bits word : ℕ) (answer : Answers) (members : List Member) (assigns : List Assignment) (held : Held)
+    → all_assigned bits word answer members assigns held ≡ assigned_by bits word answer in_extraction members assigns held
+extraction_assigns bits word answer members [] held = refl
+extraction_assigns bits word answer members (a ∷ more) held =
+    then_same (all_assigned bits word answer members more) (assigned_by bits word answer in_extraction members more) (extraction_assigns bits word answer members more)
+    (assigned (place_by bits word answer in_extraction held) (type_in members a.argument) a.argument a.value held)
+
+-- where these values give an argument something, it holds its value
+abbrev pub IsFilled : GivenValues → (Name → ℤ) → Held → Member → Type 0
+IsFilled part value held m = IsSome (given_in part m.name) → held m.name ≡ Some (value m.name)
+
+-- after assignments of these values the arguments that they are for hold theirs, and others that held theirs do so still
+pub record Filled (part : GivenValues) (assigned_to : Held → Option Held) (value : Name → ℤ) (ms : List Member) (held : Held) : Type 0 where
   pub after : Held
   pub is : assigned_to held ≡ Some after
   pub kept : (n : Name) → held n ≡ Some (value n) → after n ≡ Some (value n)
-  pub each : All (λ m. after m.name ≡ Some (value m.name)) ms
+  pub each : All (IsFilled part value after) ms
 
-module _ (w : Width) (word : ℕ) (small : word < 2 ^ width_bits w) (answer : Answers) (all : List Member) (values : GivenValues) (sound : All (λ v. IsSoundValue (width_bits w) v.1) values) where
+-- some of all values give what all of them give
+abbrev pub ArePart : GivenValues → GivenValues → Type 0
+ArePart part values = (name : Name) (given : FieldValue) → given_in part name ≡ Some given → given_in values name ≡ Some given
+
+-- what isn't given isn't assigned
+not_filled : (part : GivenValues) (value : Name → ℤ) (held : Held) (m : Member) → given_in part m.name ≡ None → IsFilled part value held m
+not_filled part value held m none some = absurd (let s : false ≡ true = subst (λ (o : Option FieldValue). IsSome o) none some in cc)
+
+module _ (w : Width) (word : ℕ) (small : word < 2 ^ width_bits w) (answer : Answers) (all : List Member) (values : GivenValues) (sound : All (λ v. IsSoundValue (width_bits w) v.1) values)
+    (set : Option Name) (shown : Shown) (part : GivenValues) (among : ArePart part values) where
   abbrev final_value : Name → ℤ
   final_value = held_in answer word all values
 
   abbrev assigned_all : List Member → Held → Option Held
-  assigned_all ms = all_assigned (helper_bits w) word answer all (assignments_of (helper_bits w) ms values)
+  assigned_all ms = assigned_by (helper_bits w) word answer shown all (assignments_of (helper_bits w) set ms part)
 
   one_assigned : (name : Name) (given : FieldValue) (held : Held) → IsSome (type_in all name) → given_in values name ≡ Some given
-      → assigned (place_in_extraction (helper_bits w) word answer held) (type_in all name) name (value_term (helper_bits w) None given) held ≡ Some (put name (final_value name) held)
+      → assigned (place_by (helper_bits w) word answer shown held) (type_in all name) name (value_term (helper_bits w) set given) held ≡ Some (put name (final_value name) held)
   one_assigned name given held typed is =
-      let at = place_in_extraction (helper_bits w) word answer held in
+      let at = place_by (helper_bits w) word answer shown held in
       let h : Name → ℤ = λ n. pos 0 in
       let keeps : IsSoundValue (width_bits w) given = given_has (IsSoundValue (width_bits w)) values name given sound is in
-      assigned_is at (type_in all name) name (value_term (helper_bits w) None given) held (value_of answer h word given) typed (value_expression w at h given keeps refl small)
+      assigned_is at (type_in all name) name (value_term (helper_bits w) set given) held (value_of answer h word given) typed (value_expression set w at h given keeps refl small)
       ∙ ap (λ z. Some (put name z held)) (sym (held_given answer word (width_bits w) all values name h given is keeps))
 
   -- one argument more, and then the others
-  next_filled : (m : Member) (ms : List Member) (held : Held) (o : Option FieldValue) → given_in values m.name ≡ o → IsSome o → IsSome (type_in all m.name) → ((h : Held) → Filled (assigned_all ms) final_value ms h)
-      → Filled (all_assigned (helper_bits w) word answer all (map (assignment_of (helper_bits w)) (given_before m.name o (in_set_order ms values)))) final_value (m ∷ ms) held
-  next_filled m ms held None is some typed more = absurd (cc)
-  next_filled m ms held (Some given) is some typed more =
+  next_filled : (m : Member) (ms : List Member) (held : Held) (o : Option FieldValue) → given_in part m.name ≡ o → IsSome (type_in all m.name) → ((h : Held) → Filled part (assigned_all ms) final_value ms h)
+      → Filled part (assigned_by (helper_bits w) word answer shown all (map (assignment_of (helper_bits w) set) (given_before m.name o (in_set_order ms part)))) final_value (m ∷ ms) held
+  next_filled m ms held None is typed more =
+      let rest = more held in
+      record {
+        after = rest.after;
+        is = rest.is;
+        kept = rest.kept;
+        each = All-cons (IsFilled part final_value rest.after) m ms (not_filled part final_value rest.after m is) rest.each;
+      }
+  next_filled m ms held (Some given) is typed more =
       let rest = more (put m.name (final_value m.name) held) in
       record {
         after = rest.after;
-        is = ap (option_and_then (assigned_all ms)) (one_assigned m.name given held typed is) ∙ rest.is;
+        is = ap (option_and_then (assigned_all ms)) (one_assigned m.name given held typed (among m.name given is)) ∙ rest.is;
         kept = λ n h. rest.kept n (put_keeps final_value m.name n held h);
-        each = All-cons (λ m. rest.after m.name ≡ Some (final_value m.name)) m ms (rest.kept m.name (put_there final_value m.name held)) rest.each;
+        each = All-cons (IsFilled part final_value rest.after) m ms (λ some. rest.kept m.name (put_there final_value m.name held)) rest.each;
       }
 
-  filled_from : (ms : List Member) (held : Held) → All (λ m. IsSome (type_in all m.name)) ms → All (λ m. IsSome (given_in values m.name)) ms → Filled (assigned_all ms) final_value ms held
-  filled_from [] held typed given = record { after = held; is = refl; kept = λ n h. h; each = All-nil _ }
-  filled_from (m ∷ ms) held typed given =
-      next_filled m ms held (given_in values m.name) refl (All-head (λ m. IsSome (given_in values m.name)) m ms given) (All-head (λ m. IsSome (type_in all m.name)) m ms typed)
-      (λ h. filled_from ms h (All-tail (λ m. IsSome (type_in all m.name)) m ms typed) (All-tail (λ m. IsSome (given_in values m.name)) m ms given))
+  filled_from : (ms : List Member) (held : Held) → All (λ m. IsSome (type_in all m.name)) ms → Filled part (assigned_all ms) final_value ms held
+  filled_from [] held typed = record { after = held; is = refl; kept = λ n h. h; each = All-nil _ }
+  filled_from (m ∷ ms) held typed =
+      next_filled m ms held (given_in part m.name) refl (All-head (λ m. IsSome (type_in all m.name)) m ms typed)
+      (λ h. filled_from ms h (All-tail (λ m. IsSome (type_in all m.name)) m ms typed))
 
   -- all of them
-  pub filled : (held : Held) → All (λ m. IsSome (given_in values m.name)) all → Filled (assigned_all all) final_value all held
-  filled held given = filled_from all held (each_typed all) given
+  pub filled : (held : Held) → Filled part (assigned_all all) final_value all held
+  filled held = filled_from all held (each_typed all)
 
 -- what a call hands over
 pub all_held : (value : Name → ℤ) (held : Held) (ms : List Member) → All (λ m. held m.name ≡ Some (value m.name)) ms → all_values (map (λ m. held m.name) ms) ≡ Some (map (λ m. value m.name) ms)

@@ -9,5 +9,7 @@ pub mod SetsByName
 pub mod Declared
 pub mod Extracting
 pub mod Filling
+pub mod GivenParts
+pub mod GivenOnce
 pub mod Chains
 pub mod Models

@@ -1,5 +1,5 @@
 -- The lines of the text have the tokens of their part of the program.
-use Rattle.std.proofs.Common.{◌≡◌, ℕ, ◌+◌, ◌==◌, List, [], ◌∷◌, ◌++◌, true, false, Bool, Some, None, refl, arith, map, lit<}
+use Rattle.std.proofs.Common.{◌≡◌, ℕ, ◌+◌, ◌==◌, List, [], ◌∷◌, ◌++◌, true, false, Bool, Option, Some, None, refl, sym, ap, subst, ◌∙◌, append-nil, append_assoc, arith, map, lit<}
 use Rattle.std.specs.Prelude.{flat_map, filter, codes}
 use Rattle.std.specs.List.{All}
 use Rattle.std.proofs.lemmas.List.Elements.{All-head, All-tail, All-map, All-weaker, All-filter, All-cons}
@@ -9,26 +9,27 @@ use Rattle.dt_values.specs.declared.width.Width.{Width}
 use Rattle.dt_values.specs.declared.width.Width.TheVariants.{W16, W32, W64}
 use Rattle.dt_fields.specs.declared.set.SetDef.{SetDef}
 use Rattle.dt_text.specs.Hexadecimal.{hex}
-use Rattle.dt_forms.specs.Patterns.{FlatPattern}
+use Rattle.dt_scope.specs.Patterns.{FlatPattern}
 use Rattle.dt_forms.specs.Sound.{IsSoundPattern}
 use Rattle.c_subset.specs.Bytes.{IsWord}
 use Rattle.c_subset.specs.Tokens.{word, mark, read, tokens_of}
 use Rattle.c_subset.specs.Marks as marks
 use Rattle.c_subset.specs.Programs as c
-use Rattle.c_subset.specs.Programs.{Name, Extraction, Prefix, extract, call, Stmts, hex_length, word_type, static_spelled, prototype_spelled, member_spelled, set_spelled, pattern_spelled, extract_head_spelled, extract_spelled, if_spelled, stmt_spelled, stmts_spelled, union_set_spelled, union_spelled, prefix_of, decoder_head_spelled, decoder_end_spelled, decoder_spelled, spelling}
+use Rattle.c_subset.specs.Programs.{Name, Extraction, Prefix, extract, call, Stmts, done, then, hex_length, word_type, static_spelled, prototype_spelled, member_spelled, set_spelled, pattern_spelled, extract_head_spelled, extract_spelled, if_spelled, stmt_spelled, stmts_spelled, union_set_spelled, union_spelled, prefix_of, decoder_head_spelled, decoder_end_spelled, decoder_spelled, spelling}
 use Rattle.c_subset.specs.Exprs.{Assignment}
 use Rattle.c_subset.specs.ExprForms.{AssignmentKeeps}
 use Rattle.c_subset.specs.ExprSpelling.{assignment_spelled}
+use Rattle.c_eval.specs.Meaning.{helper_bits}
 use Rattle.c_subset.specs.Keeps.{IsTypeKept, SetKeeps, PatternNamed, ExtractionKeeps}
 use Rattle.c_subset.proofs.Lexing.{Lexes, line_lexes, lexes_none, lexes_append, lexes_each, tokens_from}
 use Rattle.c_subset.proofs.Seeing.{see}
 use Rattle.c_subset.proofs.Words.{hex_word_is, decimal_word_is, name_is_word, type_name_is_word, underscore, word_type_is}
 use Rattle.c_fields.proofs.Lines as fields
-use Rattle.c_writer.specs.Parts.{NamedPattern, Parts}
+use Rattle.c_writer.specs.Parts.{NamedPattern, Parts, own_assignments}
 use Rattle.c_writer.specs.Prototypes.{has_other_name, first_of_each_name, prototype_of, prototypes}
-use Rattle.c_writer.specs.Layout.{static_text, head_line, set_head_line, member_line, set_end_line, set_lines, typedef_line, prototype_line, prototype_lines, extraction_head_line, assignment_line, extraction_lines, empty_line, head_of_decoder, decoder_head_lines, union_head_line, union_set_line, union_end_lines, union_lines, union_where_patterns, comment_line, extract_line, call_line, body_lines, if_line, close_line, test_lines, pattern_lines, end_lines, decoder_lines, layout}
-use Rattle.c_writer.specs.Chain.{test_then, chain, prefix_where_patterns, chain_program}
-use Rattle.c_writer.specs.Sound.{IsSoundIn, AreSound}
+use Rattle.c_writer.specs.Layout.{static_text, head_line, set_head_line, member_line, set_end_line, set_lines, typedef_line, prototype_line, prototype_lines, extraction_head_line, assignment_line, extraction_lines, empty_line, head_of_decoder, decoder_head_lines, union_head_line, union_set_line, union_end_lines, union_lines, union_where_patterns, comment_line, extract_line, own_lines, call_line, body_lines, if_line, close_line, test_lines, pattern_lines, end_lines, decoder_lines, layout}
+use Rattle.c_writer.specs.Chain.{assigns_then, body_then, test_then, chain, prefix_where_patterns, chain_program}
+use Rattle.c_writer.specs.Sound.{IsSoundIn, AreSound, OwnKeeps}
 use Rattle.c_writer.specs.Uses.{declared_sets, is_set_used, is_format_used, used_sets, used_extractions}
 
 extract_is_word : IsWord (codes "_extract_")
@@ -92,13 +93,13 @@ unfolding see read
 extraction_head_lexes w decoder format set h k l =
     line_lexes _ _ (tt, (name_is_word decoder h, (extract_is_word, (name_is_word format k, (tt, (name_is_word set l, (tt, (word_type_is w, (tt, tt))))))))) refl
 
-assignment_lexes : (w : Width) (a : Assignment) → AssignmentKeeps a → Lexes (assignment_line w a) (assignment_spelled w a)
+assignment_lexes : (w : Width) (a : Assignment) → AssignmentKeeps a → Lexes (assignment_line w 4 None a) (assignment_spelled w a)
 assignment_lexes w a k = fields.assignment_lexes w 4 None a.argument a.value k.value.names k.argument
 
 extraction_lexes : (w : Width) (decoder : Name) (e : Extraction) → IsName decoder → ExtractionKeeps e → Lexes (extraction_lines w decoder e) (extract_spelled w decoder e)
 extraction_lexes w decoder e h k =
     lexes_append (extraction_head_lexes w decoder e.format e.set h k.format k.set)
-    (lexes_append (lexes_each AssignmentKeeps (assignment_line w) (assignment_spelled w) (assignment_lexes w) e.assigns k.assigns) (close_line_lexes 0))
+    (lexes_append (lexes_each AssignmentKeeps (assignment_line w 4 None) (assignment_spelled w) (assignment_lexes w) e.assigns k.assigns) (close_line_lexes 0))
 
 empty_lexes : Lexes empty_line []
 unfolding see read
@@ -148,24 +149,53 @@ end_lexes : Lexes end_lines decoder_end_spelled
 unfolding see read
 end_lexes = line_lexes _ _ (tt, tt) refl
 
-body_lexes : (p : Parts) (level : ℕ) (q : NamedPattern) → IsName p.decoder → IsName p.prefix.name → IsSoundIn p q
-    → Lexes (body_lines p level q) (stmt_spelled p.width p.decoder p.prefix.name (extract q.format q.set) ++ stmt_spelled p.width p.decoder p.prefix.name (call q.trial.flat.name q.set))
-body_lexes p level q h k s =
-    lexes_append (comment_lexes level q.trial.flat s.pattern)
+-- assignments of the decoder and what follows them
+assigns_lex : (w : Width) (level : ℕ) (decoder prefix set : Name) (assigns : List Assignment) (rest : Stmts) (bytes : List ℕ) → IsName set → All OwnKeeps assigns → Lexes bytes (stmts_spelled w decoder prefix rest)
+    → Lexes (flat_map (assignment_line w level (Some set)) assigns ++ bytes) (stmts_spelled w decoder prefix (assigns_then set assigns rest))
+assigns_lex w level decoder prefix set [] rest bytes named keep r = r
+assigns_lex w level decoder prefix set (a ∷ more) rest bytes named keep r =
+    let line = assignment_line w level (Some set) in
+    let h = All-head OwnKeeps a more keep in
+    subst (λ text. Lexes text (stmts_spelled w decoder prefix (assigns_then set (a ∷ more) rest))) (sym (append_assoc (line a) (flat_map line more) bytes))
+    (lexes_append (fields.assignment_lexes w level (Some set) a.argument a.value h.value.names (named, h.argument))
+    (assigns_lex w level decoder prefix set more rest bytes named (All-tail OwnKeeps a more keep) r))
+
+-- four texts, and what follows them
+four_before : (a b c d bytes : List ℕ) → (a ++ (b ++ (c ++ d))) ++ bytes ≡ a ++ (b ++ (c ++ (d ++ bytes)))
+four_before a b c d bytes =
+    append_assoc a (b ++ (c ++ d)) bytes
+    ∙ ap (λ x. a ++ x) (append_assoc b (c ++ d) bytes ∙ ap (λ x. b ++ x) (append_assoc c d bytes))
+
+-- a body and what follows it
+body_lexes : (p : Parts) (level : ℕ) (q : NamedPattern) (rest : Stmts) (bytes : List ℕ) → IsName p.decoder → IsName p.prefix.name → IsSoundIn p q → Lexes bytes (stmts_spelled p.width p.decoder p.prefix.name rest)
+    → Lexes (body_lines p level q ++ bytes) (stmts_spelled p.width p.decoder p.prefix.name (body_then (helper_bits p.width) q rest))
+body_lexes p level q rest bytes h k s r =
+    let last = call_line level p.prefix.name q.trial.flat.name q.set in
+    subst (λ text. Lexes text (stmts_spelled p.width p.decoder p.prefix.name (body_then (helper_bits p.width) q rest)))
+    (sym (four_before (comment_line level q.trial.flat) (extract_line level p.decoder q.format q.set) (own_lines p.width level q) last bytes))
+    (lexes_append (comment_lexes level q.trial.flat s.pattern)
     (lexes_append (extract_line_lexes p.width level p.decoder p.prefix.name q.format q.set h s.format_named s.set_named)
-    (call_line_lexes p.width level p.decoder p.prefix.name q.trial.flat.name q.set k s.pattern.named s.set_named))
+    (assigns_lex p.width level p.decoder p.prefix.name q.set (own_assignments (helper_bits p.width) q) (then (call q.trial.flat.name q.set) rest) (last ++ bytes) s.set_named s.own
+    (lexes_append (call_line_lexes p.width level p.decoder p.prefix.name q.trial.flat.name q.set k s.pattern.named s.set_named) r))))
+
+-- a body alone
+lone_body_lexes : (p : Parts) (level : ℕ) (q : NamedPattern) → IsName p.decoder → IsName p.prefix.name → IsSoundIn p q
+    → Lexes (body_lines p level q) (stmts_spelled p.width p.decoder p.prefix.name (body_then (helper_bits p.width) q done))
+lone_body_lexes p level q h k s =
+    subst (λ text. Lexes text (stmts_spelled p.width p.decoder p.prefix.name (body_then (helper_bits p.width) q done))) (append-nil (body_lines p level q))
+    (body_lexes p level q done [] h k s lexes_none)
 
 -- a test and what follows it
 test_lexes : (b : Bool) (p : Parts) (q : NamedPattern) (rest : Stmts) (bytes : List ℕ) → IsName p.decoder → IsName p.prefix.name → IsSoundIn p q → Lexes bytes (stmts_spelled p.width p.decoder p.prefix.name rest)
-    → Lexes (test_lines b p q ++ bytes) (stmts_spelled p.width p.decoder p.prefix.name (test_then b q rest))
-test_lexes true p q rest bytes h k s r = lexes_append (body_lexes p 4 q h k s) r
+    → Lexes (test_lines b p q ++ bytes) (stmts_spelled p.width p.decoder p.prefix.name (test_then b (helper_bits p.width) q rest))
+test_lexes true p q rest bytes h k s r = body_lexes p 4 q rest bytes h k s r
 test_lexes false p q rest bytes h k s r =
-    lexes_append (lexes_append (if_line_lexes p.width 4 q.trial.flat.fixed_mask q.trial.flat.fixed_bits) (lexes_append (body_lexes p 8 q h k s) (close_line_lexes 4))) r
+    lexes_append (lexes_append (if_line_lexes p.width 4 q.trial.flat.fixed_mask q.trial.flat.fixed_bits) (lexes_append (lone_body_lexes p 8 q h k s) (close_line_lexes 4))) r
 
-chain_lexes : (p : Parts) (qs : List NamedPattern) → IsName p.decoder → IsName p.prefix.name → All (IsSoundIn p) qs → Lexes (flat_map (pattern_lines p) qs) (stmts_spelled p.width p.decoder p.prefix.name (chain qs))
+chain_lexes : (p : Parts) (qs : List NamedPattern) → IsName p.decoder → IsName p.prefix.name → All (IsSoundIn p) qs → Lexes (flat_map (pattern_lines p) qs) (stmts_spelled p.width p.decoder p.prefix.name (chain (helper_bits p.width) qs))
 chain_lexes p [] h k s = lexes_none
 chain_lexes p (q ∷ qs) h k s =
-    test_lexes (q.trial.flat.fixed_mask == 0) p q (chain qs) _ h k (All-head (IsSoundIn p) q qs s) (chain_lexes p qs h k (All-tail (IsSoundIn p) q qs s))
+    test_lexes (q.trial.flat.fixed_mask == 0) p q (chain (helper_bits p.width) qs) _ h k (All-head (IsSoundIn p) q qs s) (chain_lexes p qs h k (All-tail (IsSoundIn p) q qs s))
 
 -- the first patterns of names are sound as all are
 pub firsts_have : (P : NamedPattern → Type 0) (qs : List NamedPattern) → All P qs → All P (first_of_each_name qs)
@@ -188,7 +218,7 @@ union_part_lexes [] sets h = lexes_none
 union_part_lexes (q ∷ qs) sets h = union_lexes (prototype_of q) (map prototype_of (filter (has_other_name q) (first_of_each_name qs))) sets h
 
 tests_lex : (p : Parts) (qs : List NamedPattern) → IsName p.decoder → IsName p.prefix.name → All (IsSoundIn p) qs
-    → Lexes (flat_map (pattern_lines p) qs) (stmts_spelled p.width p.decoder (prefix_of (prefix_where_patterns qs p.prefix)).name (chain qs))
+    → Lexes (flat_map (pattern_lines p) qs) (stmts_spelled p.width p.decoder (prefix_of (prefix_where_patterns qs p.prefix)).name (chain (helper_bits p.width) qs))
 tests_lex p [] h k s = lexes_none
 tests_lex p (q ∷ qs) h k s = chain_lexes p (q ∷ qs) h k s
 

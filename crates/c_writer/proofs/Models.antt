@@ -1,11 +1,11 @@
 -- The parts of a sound model are sound, and their text decodes its patterns.
-use Rattle.std.proofs.Common.{◌≡◌, ◌≢◌, ℕ, ◌<◌, ◌||◌, List, [], ◌∷◌, ◌++◌, length, get_or, map, Option, Some, None, Bool, not, true, false, cond, refl, sym, ap, ap₂, ◌∙◌, subst, append-nil}
+use Rattle.std.proofs.Common.{◌≡◌, ◌≢◌, ℕ, ◌<◌, ◌||◌, List, [], ◌∷◌, ◌++◌, length, get_or, map, Option, Some, None, Bool, not, true, false, cond, refl, sym, ap, ap₂, ◌∙◌, subst}
 use Rattle.std.specs.Prelude.{All, AllPairs, IsPermutation, IsSome, option_map}
 use Rattle.std.specs.List.{list_any}
 use Rattle.std.proofs.lemmas.List.{get_or-map, length-map}
 use Rattle.std.proofs.lemmas.List.Sorted.{list_any-IsPermutation}
 use Rattle.std.proofs.lemmas.Bool.{and_parts}
-use Rattle.std.proofs.lemmas.List.Elements.{All-cons, All-filter, All-head, All-map, All-nil, All-tail, All-weaker, filter_passes}
+use Rattle.std.proofs.lemmas.List.Elements.{All-append, All-cons, All-filter, All-head, All-map, All-nil, All-tail, All-weaker, filter_passes}
 use Rattle.std.proofs.lemmas.List.Folds.{list_any_at}
 use Rattle.dt_values.specs.Names.{is_name, IsName}
 use Rattle.dt_values.specs.Types.{is_text}
@@ -15,22 +15,24 @@ use Rattle.dt_values.specs.declared.ctype.CType.TheVariants.{Int, I8, I16, I32, 
 use Rattle.dt_values.specs.declared.ctype.Member.{Member}
 use Rattle.dt_values.specs.declared.width.Width.{Width}
 use Rattle.dt_fields.specs.CNames.{begins_with_letter, is_ident, is_keyword, IsCName}
+use Rattle.dt_fields.specs.SetsByName.{set_at}
 use Rattle.dt_fields.specs.SoundSets.{IsSoundType, IsSoundSet}
 use Rattle.dt_fields.specs.declared.set.SetDef.{SetDef}
-use Rattle.dt_forms.specs.declared.form.Format.{Format}
-use Rattle.dt_forms.specs.declared.form.Pattern.{Pattern}
+use Rattle.dt_scope.specs.declared.form.Format.{Format}
+use Rattle.dt_scope.specs.declared.form.Pattern.{Pattern}
+use Rattle.dt_scope.specs.declared.options.Options.{Options}
+use Rattle.dt_scope.specs.declared.value.FieldValue.{FieldValue}
+use Rattle.dt_scope.specs.Options.{IsOptions}
+use Rattle.dt_scope.specs.Patterns.{GivenValues, TrialPattern}
 use Rattle.dt_forms.specs.declared.model.Model.{Model}
-use Rattle.dt_forms.specs.declared.options.Options.{Options}
-use Rattle.dt_forms.specs.declared.value.FieldValue.{FieldValue}
-use Rattle.dt_forms.specs.Models.{definitions_in, trial_patterns}
-use Rattle.dt_forms.specs.Options.{IsOptions}
 use Rattle.dt_forms.proofs.OptionNames.{option_named}
-use Rattle.dt_forms.specs.Patterns.{GivenValues, TrialPattern}
-use Rattle.dt_forms.specs.PatternLines.{set_number}
+use Rattle.dt_forms.specs.LineNames.{set_number}
+use Rattle.dt_forms.specs.Models.{definitions_in, trial_patterns}
 use Rattle.dt_forms.specs.Sound.{IsSound, IsSoundPattern, IsSoundValue}
 use Rattle.dt_forms.specs.View.{given_values, members_of_pattern, pattern_seen, trial_pattern}
 use Rattle.c_subset.specs.Programs.{Name, Extraction}
 use Rattle.c_subset.specs.ExprForms.{AssignmentKeeps}
+use Rattle.c_subset.specs.Exprs.{Assignment}
 use Rattle.c_subset.specs.Keeps.{ExtractionKeeps, IsTypeKept, SetKeeps}
 use Rattle.dt_match.specs.Arguments.{given_in}
 use Rattle.dt_match.specs.Hosts.{script}
@@ -39,18 +41,18 @@ use Rattle.c_eval.specs.Runs.{assigns_in}
 use Rattle.c_fields.specs.Values.{HasRoom}
 use Rattle.c_fields.specs.Written.{assignment_of}
 use Rattle.c_fields.proofs.Forms.{value_stands}
-use Rattle.c_writer.specs.Parts.{Parts, set_name, set_members, format_name, assignments_of, extraction_of, named_pattern, parts_of, patterns_in}
+use Rattle.c_writer.specs.Parts.{Parts, set_name, set_members, set_name_of, format_name, format_values_of, assignments_of, extraction_of, named_pattern, parts_of, patterns_in}
 use Rattle.c_writer.specs.Chain.{chain_program}
 use Rattle.c_writer.specs.Decoders.{IsDecoder}
 use Rattle.c_writer.specs.Layout.{layout}
-use Rattle.dt_fields.specs.SetsByName.{set_at}
-use Rattle.c_writer.specs.Sound.{IsSoundIn, HaveOneSet, AreSound}
+use Rattle.c_writer.specs.Sound.{IsSoundIn, HaveOneSet, AreSound, OwnKeeps}
 use Rattle.c_writer.specs.SetOrder.{given_before, in_set_order}
 use Rattle.c_writer.specs.Uses.{declared_sets, outside_sets}
-use Rattle.c_writer.specs.Within.{AreWithin, FormatHasRoom}
+use Rattle.c_writer.specs.Within.{AreWithin, FormatHasRoom, HaveValuesRoom, PatternHasRoom}
 use Rattle.c_writer.proofs.Chains.{program_agrees}
 use Rattle.c_writer.proofs.Extracting.{assigns_at}
 use Rattle.c_writer.proofs.Filling.{given_has}
+use Rattle.c_writer.proofs.GivenOnce.{given_apart}
 use Rattle.c_writer.proofs.SoundValues.{value_has_room, value_keeps}
 use Rattle.c_writer.proofs.Lines.{layout_tokens}
 use Rattle.c_writer.proofs.Rules.{pairs_map, keeps_rules}
@@ -130,19 +132,29 @@ each_given ms vs h k d below =
     (list_any-IsPermutation (is_text name) (map (λ (v : Name × FieldValue). v.0) vs) names h
     ∙ list_any_at (is_text name) names k d.name (subst (λ n. k < n) (sym (length-map ms (λ (m : Member). m.name))) below) there)
 
--- what an extraction assigns keeps the rules
-assignment_keeps : (w : Width) (name : Name) (o : Option FieldValue) (vs all : GivenValues) → IsName name → given_in all name ≡ o → All (λ v. IsSoundValue (width_bits w) v.1) all → All AssignmentKeeps (map (assignment_of (helper_bits w)) vs)
-    → All AssignmentKeeps (map (assignment_of (helper_bits w)) (given_before name o vs))
-assignment_keeps w name None vs all named is sound h = h
-assignment_keeps w name (Some given) vs all named is sound h =
-    let keeps : IsSoundValue (width_bits w) given = given_has (IsSoundValue (width_bits w)) all name given sound is in
-    All-cons AssignmentKeeps (assignment_of (helper_bits w) (name, given)) (map (assignment_of (helper_bits w)) vs) (record { argument = named; value = value_keeps w given keeps; place = value_stands (helper_bits w) None given }) h
+-- what sound values assign keeps the rules, where each such assignment does
+module _ (w : Width) (set : Option Name) (Keeps : Assignment → Type 0)
+    (each : (name : Name) (given : FieldValue) → IsName name → IsSoundValue (width_bits w) given → Keeps (assignment_of (helper_bits w) set (name, given))) where
+  assignment_keeps : (name : Name) (o : Option FieldValue) (vs all : GivenValues) → IsName name → given_in all name ≡ o → All (λ v. IsSoundValue (width_bits w) v.1) all → All Keeps (map (assignment_of (helper_bits w) set) vs)
+      → All Keeps (map (assignment_of (helper_bits w) set) (given_before name o vs))
+  assignment_keeps name None vs all named is sound h = h
+  assignment_keeps name (Some given) vs all named is sound h =
+      let keeps : IsSoundValue (width_bits w) given = given_has (IsSoundValue (width_bits w)) all name given sound is in
+      All-cons Keeps (assignment_of (helper_bits w) set (name, given)) (map (assignment_of (helper_bits w) set) vs) (each name given named keeps) h
 
-assignments_keep : (w : Width) (ms : List Member) (vs : GivenValues) → All (λ m. IsName m.name) ms → All (λ v. IsSoundValue (width_bits w) v.1) vs → All AssignmentKeeps (assignments_of (helper_bits w) ms vs)
-assignments_keep w [] vs named sound = All-nil _
-assignments_keep w (m ∷ ms) vs named sound =
-    assignment_keeps w m.name (given_in vs m.name) (in_set_order ms vs) vs (All-head (λ (m : Member). IsName m.name) m ms named) refl sound
-    (assignments_keep w ms vs (All-tail (λ (m : Member). IsName m.name) m ms named) sound)
+  assignments_keep : (ms : List Member) (vs : GivenValues) → All (λ m. IsName m.name) ms → All (λ v. IsSoundValue (width_bits w) v.1) vs → All Keeps (assignments_of (helper_bits w) set ms vs)
+  assignments_keep [] vs named sound = All-nil _
+  assignments_keep (m ∷ ms) vs named sound =
+      assignment_keeps m.name (given_in vs m.name) (in_set_order ms vs) vs (All-head (λ (m : Member). IsName m.name) m ms named) refl sound
+      (assignments_keep ms vs (All-tail (λ (m : Member). IsName m.name) m ms named) sound)
+
+extraction_keeps : (w : Width) (ms : List Member) (vs : GivenValues) → All (λ m. IsName m.name) ms → All (λ v. IsSoundValue (width_bits w) v.1) vs → All AssignmentKeeps (assignments_of (helper_bits w) None ms vs)
+extraction_keeps w =
+    assignments_keep w None AssignmentKeeps (λ name given named sound. record { argument = named; value = value_keeps None w given sound; place = value_stands (helper_bits w) None given })
+
+own_keep : (w : Width) (set : Name) (ms : List Member) (vs : GivenValues) → All (λ m. IsName m.name) ms → All (λ v. IsSoundValue (width_bits w) v.1) vs → All OwnKeeps (assignments_of (helper_bits w) (Some set) ms vs)
+own_keep w set =
+    assignments_keep w (Some set) OwnKeeps (λ name given named sound. record { argument = named; value = value_keeps (Some set) w given sound; place = value_stands (helper_bits w) (Some set) given })
 
 module _ (n : ℕ) (sets : List SetDef) (formats : List Format) where
   -- the format of a pattern, and what it says
@@ -158,21 +170,20 @@ module _ (n : ℕ) (sets : List SetDef) (formats : List Format) where
   name_of_format : (p : Pattern) → IsOfFormat p → format_name formats p.format ≡ (format_of p).name
   name_of_format p below = get_or-map (λ (f : Format). f.name) formats p.format no_format [] below
 
-  values_of_format : (p : Pattern) → IsOfFormat p → p.values ≡ [] → given_values formats p ≡ (format_of p).values
-  values_of_format p below none =
-      ap₂ ◌++◌ (get_or-map (λ (f : Format). f.values) formats p.format no_format [] below) none ∙ append-nil (format_of p).values
+  values_of_format : (p : Pattern) → IsOfFormat p → format_values_of formats p ≡ (format_of p).values
+  values_of_format p below = get_or-map (λ (f : Format). f.values) formats p.format no_format [] below
 
   -- the extraction of the format is found by its name
-  format_there : (p : Pattern) → AllPairs (λ e f. e.format ≢ f.format) (map (extraction_of n sets) formats) → IsOfFormat p → p.values ≡ []
-      → assigns_in (map (extraction_of n sets) formats) (format_name formats p.format) (set_name sets (set_number formats p)) ≡ Some (assignments_of n (members_of_pattern sets formats p) (given_values formats p))
-  format_there p differ below none =
+  format_there : (p : Pattern) → AllPairs (λ e f. e.format ≢ f.format) (map (extraction_of n sets) formats) → IsOfFormat p
+      → assigns_in (map (extraction_of n sets) formats) (format_name formats p.format) (set_name sets (set_number formats p)) ≡ Some (assignments_of n None (members_of_pattern sets formats p) (format_values_of formats p))
+  format_there p differ below =
       let es = map (extraction_of n sets) formats in
       let e = extraction_of n sets no_format in
       let inside : p.format < length es = subst (λ l. p.format < l) (sym (length-map formats (extraction_of n sets))) below in
       let there = subst (λ (x : Extraction). assigns_in es x.format x.set ≡ Some x.assigns) (get_or-map (extraction_of n sets) formats p.format no_format e below) (assigns_at es p.format e differ inside) in
       ap₂ (assigns_in es) (name_of_format p below) (ap (set_name sets) (set_of_format p below))
       ∙ there
-      ∙ sym (ap₂ (λ s vs. Some (assignments_of n (set_members sets s) vs)) (set_of_format p below) (values_of_format p below none))
+      ∙ sym (ap₂ (λ s vs. Some (assignments_of n None (set_members sets s) vs)) (set_of_format p below) (values_of_format p below))
 
 -- the set of a pattern is found by its name, with its arguments
 set_there : (sets : List SetDef) (n : ℕ) → AllPairs (λ s t. s.name ≢ t.name) sets → n < length sets → option_map (λ s. s.members) (set_at sets (set_name sets n)) ≡ Some (set_members sets n)
@@ -194,7 +205,7 @@ sound_parts options model asked width s = record {
         format = s.formats_named k d below;
         set = at IsName (λ (d : SetDef). d.name) model.sets f.set [] names (s.set_numbers k d below);
         assigns =
-            assignments_keep options.width (set_members model.sets f.set) f.values
+            extraction_keeps options.width (set_members model.sets f.set) f.values
             (at (λ (ms : List Member). All (λ m. IsName m.name) ms) (λ (d : SetDef). d.members) model.sets f.set [] arguments (s.set_numbers k d below))
             (values k d below);
       });
@@ -221,6 +232,12 @@ sound_parts options model asked width s = record {
     values : All (λ (f : Format). All (λ v. IsSoundValue (width_bits options.width) v.1) f.values) model.formats
     values = subst (λ w. All (λ (f : Format). All (λ v. IsSoundValue (width_bits w) v.1) f.values) model.formats) width s.format_values
 
+    own_values : All (λ (p : Pattern). All (λ v. IsSoundValue (width_bits options.width) v.1) p.values) model.patterns
+    own_values = subst (λ w. All (λ (p : Pattern). All (λ v. IsSoundValue (width_bits w) v.1) p.values) model.patterns) width s.pattern_values
+
+    differ : All (λ (d : SetDef). AllPairs (λ (m n : Member). m.name ≢ n.name) d.members) model.sets
+    differ = All-weaker IsSoundSet (λ (d : SetDef). AllPairs (λ (m n : Member). m.name ≢ n.name) d.members) (λ d h. h.different) model.sets s.sets_sound
+
     apart : AllPairs (λ e f. e.format ≢ f.format) (map extraction model.formats)
     apart = pairs_map (λ (e f : Extraction). e.format ≢ f.format) extraction no_format model.formats s.format_names
 
@@ -239,13 +256,25 @@ sound_parts options model asked width s = record {
           format_named = at IsName (λ (f : Format). f.name) model.formats p.format [] s.formats_named format;
           set_named = at IsName (λ (d : SetDef). d.name) model.sets (set_number model.formats p) [] names set;
           set = set_there model.sets (set_number model.formats p) s.set_names set;
-          format = format_there (helper_bits options.width) model.sets model.formats p apart format (s.pattern_values k d below);
+          format = format_there (helper_bits options.width) model.sets model.formats p apart format;
           values = record {
             each = each_given (members_of_pattern model.sets model.formats p) (given_values model.formats p) (s.values k d below);
             sound =
-                subst (λ (vs : GivenValues). All (λ v. IsSoundValue (width_bits options.width) v.1) vs)
-                (sym (values_of_format (helper_bits options.width) model.sets model.formats p format (s.pattern_values k d below))) (values p.format no_format format);
+                All-append (λ (v : Name × FieldValue). IsSoundValue (width_bits options.width) v.1) (format_values_of model.formats p) p.values
+                (at (λ (vs : GivenValues). All (λ v. IsSoundValue (width_bits options.width) v.1) vs) (λ (f : Format). f.values) model.formats p.format [] values format)
+                (own_values k d below);
           };
+          once = record {
+            all = refl;
+            apart =
+                given_apart (format_values_of model.formats p) p.values (members_of_pattern model.sets model.formats p)
+                (at (λ (ms : List Member). AllPairs (λ m n. m.name ≢ n.name) ms) (λ (d : SetDef). d.members) model.sets (set_number model.formats p) [] differ set)
+                (s.values k d below);
+          };
+          own =
+              own_keep options.width (set_name_of model.sets model.formats p) (members_of_pattern model.sets model.formats p) p.values
+              (at (λ (ms : List Member). All (λ m. IsName m.name) ms) (λ (d : SetDef). d.members) model.sets (set_number model.formats p) [] arguments set)
+              (own_values k d below);
         }
 
 -- the numbers of a sound model are in range
@@ -253,11 +282,18 @@ pub within_sound : (model : Model) → IsSound model → AreWithin (definitions_
 within_sound model s = record { forms = s.set_numbers; patterns = s.format_numbers }
 
 -- helpers have room for its values
+have_room : (w : Width) (vs : GivenValues) → All (λ v. IsSoundValue (width_bits w) v.1) vs → HaveValuesRoom (helper_bits w) vs
+have_room w vs sound = All-weaker (λ v. IsSoundValue (width_bits w) v.1) (λ v. HasRoom (helper_bits w) v.1) (λ v h. value_has_room w v.1 h) vs sound
+
 pub room_sound : (options : Options) (model : Model) → model.width ≡ options.width → IsSound model → All (FormatHasRoom (helper_bits options.width)) model.formats
 room_sound options model width s =
     subst (λ w. All (FormatHasRoom (helper_bits w)) model.formats) width
-    (λ k d below. All-weaker (λ v. IsSoundValue (width_bits model.width) v.1) (λ v. HasRoom (helper_bits model.width) v.1)
-    (λ v h. value_has_room model.width v.1 h) (get_or model.formats k d).values (s.format_values k d below))
+    (λ k d below. have_room model.width (get_or model.formats k d).values (s.format_values k d below))
+
+pub own_room_sound : (options : Options) (model : Model) → model.width ≡ options.width → IsSound model → All (PatternHasRoom (helper_bits options.width)) model.patterns
+own_room_sound options model width s =
+    subst (λ w. All (PatternHasRoom (helper_bits w)) model.patterns) width
+    (λ k d below. have_room model.width (get_or model.patterns k d).values (s.pattern_values k d below))
 
 trials_of_parts : (sets : List SetDef) (formats : List Format) (ps : List Pattern) → map (λ q. q.trial) (map (named_pattern sets formats) ps) ≡ map (trial_pattern sets formats) ps
 trials_of_parts sets formats [] = refl

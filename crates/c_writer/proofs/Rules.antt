@@ -1,5 +1,5 @@
 -- The program of sound parts keeps the rules of the C subset.
-use Rattle.std.proofs.Common.{◌≡◌, ◌≢◌, ◌<◌, ◌^◌, ◌==◌, List, [], ◌∷◌, Bool, true, false, not, refl, sym, arith, map, filter, subst}
+use Rattle.std.proofs.Common.{◌≡◌, ◌≢◌, ℕ, ◌<◌, ◌^◌, ◌==◌, List, [], ◌∷◌, Bool, true, false, not, refl, sym, arith, map, filter, subst}
 use Rattle.std.specs.Prelude.{◌↔◌, nat_eq, IsSome, IfSome}
 use Rattle.std.specs.List.{All}
 use Rattle.std.specs.Cmp.Lexicographic.{pointwise, nat_list_eq_equiv}
@@ -11,12 +11,14 @@ use Rattle.std.proofs.lemmas.List.{get_or-map, length-map}
 use Rattle.dt_values.specs.Names.{IsName}
 use Rattle.dt_values.specs.Widths.{width_bits}
 use Rattle.dt_fields.specs.declared.set.SetDef.{SetDef}
-use Rattle.c_subset.specs.Programs.{Name, Prefix, Pattern, Extraction, Stmts}
+use Rattle.c_subset.specs.Exprs.{Assignment}
+use Rattle.c_subset.specs.Programs.{Name, Prefix, Pattern, Extraction, Stmts, done}
 use Rattle.c_subset.specs.Keeps.{StmtsKeep, StmtsBelow, HaveNoCall, AllDiffer, KeepsRules}
-use Rattle.c_writer.specs.Parts.{NamedPattern, Parts}
+use Rattle.c_eval.specs.Meaning.{helper_bits}
+use Rattle.c_writer.specs.Parts.{NamedPattern, Parts, own_assignments}
 use Rattle.c_writer.specs.Prototypes.{has_other_name, first_of_each_name, prototype_of, prototypes}
-use Rattle.c_writer.specs.Chain.{test_then, chain, prefix_where_patterns, chain_program}
-use Rattle.c_writer.specs.Sound.{IsSoundIn, AreSound}
+use Rattle.c_writer.specs.Chain.{assigns_then, body_then, test_then, chain, prefix_where_patterns, chain_program}
+use Rattle.c_writer.specs.Sound.{IsSoundIn, AreSound, OwnKeeps}
 use Rattle.c_writer.specs.Uses.{is_set_used, is_format_used}
 use Rattle.c_writer.proofs.Lines.{prototypes_named, used_sets_named, used_extractions_keep}
 
@@ -51,6 +53,8 @@ unnamed = record {
   };
   format = [];
   set = [];
+  extracted = [];
+  own = [];
 }
 
 names_differ : (qs : List NamedPattern) → AllPairs HaveOtherNames qs → AllDiffer (map (λ d. d.name) (map prototype_of qs))
@@ -84,25 +88,43 @@ no_set = record { name = []; members = []; outside = false }
 no_extraction : Extraction
 no_extraction = record { format = []; set = []; assigns = [] }
 
-test_keeps : (p : Parts) (b : Bool) (q : NamedPattern) (rest : Stmts) → IsSoundIn p q → StmtsKeep rest → StmtsKeep (test_then b q rest)
-test_keeps p true q rest h r = ((h.format_named, h.set_named), ((h.pattern.named, h.set_named), r))
-test_keeps p false q rest h r = (((h.format_named, h.set_named), ((h.pattern.named, h.set_named), tt)), r)
+-- ---- assignments of the decoder
+assigns_keep : (set : Name) (assigns : List Assignment) (rest : Stmts) → IsName set → All OwnKeeps assigns → StmtsKeep rest → StmtsKeep (assigns_then set assigns rest)
+assigns_keep set [] rest named h r = r
+assigns_keep set (a ∷ more) rest named h r =
+    let k = All-head OwnKeeps a more h in
+    ((named, k.argument, k.value, k.place), assigns_keep set more rest named (All-tail OwnKeeps a more h) r)
 
-chain_keeps : (p : Parts) (qs : List NamedPattern) → All (IsSoundIn p) qs → StmtsKeep (chain qs)
+assigns_below : (limit : ℕ) (set : Name) (assigns : List Assignment) (rest : Stmts) → StmtsBelow limit rest → StmtsBelow limit (assigns_then set assigns rest)
+assigns_below limit set [] rest r = r
+assigns_below limit set (a ∷ more) rest r = (tt, assigns_below limit set more rest r)
+
+-- ---- the statements
+body_keeps : (p : Parts) (q : NamedPattern) (rest : Stmts) → IsSoundIn p q → StmtsKeep rest → StmtsKeep (body_then (helper_bits p.width) q rest)
+body_keeps p q rest h r = ((h.format_named, h.set_named), assigns_keep q.set (own_assignments (helper_bits p.width) q) _ h.set_named h.own ((h.pattern.named, h.set_named), r))
+
+test_keeps : (p : Parts) (b : Bool) (q : NamedPattern) (rest : Stmts) → IsSoundIn p q → StmtsKeep rest → StmtsKeep (test_then b (helper_bits p.width) q rest)
+test_keeps p true q rest h r = body_keeps p q rest h r
+test_keeps p false q rest h r = (body_keeps p q done h tt, r)
+
+chain_keeps : (p : Parts) (qs : List NamedPattern) → All (IsSoundIn p) qs → StmtsKeep (chain (helper_bits p.width) qs)
 chain_keeps p [] h = tt
-chain_keeps p (q ∷ qs) h = test_keeps p (q.trial.flat.fixed_mask == 0) q (chain qs) (All-head (IsSoundIn p) q qs h) (chain_keeps p qs (All-tail (IsSoundIn p) q qs h))
+chain_keeps p (q ∷ qs) h = test_keeps p (q.trial.flat.fixed_mask == 0) q _ (All-head (IsSoundIn p) q qs h) (chain_keeps p qs (All-tail (IsSoundIn p) q qs h))
 
-test_below : (p : Parts) (b : Bool) (q : NamedPattern) (rest : Stmts) → IsSoundIn p q → StmtsBelow (2 ^ width_bits p.width) rest → StmtsBelow (2 ^ width_bits p.width) (test_then b q rest)
-test_below p true q rest h r = (tt, (tt, r))
-test_below p false q rest h r = ((h.pattern.mask_below, h.pattern.bits_below, (tt, (tt, tt))), r)
+body_below : (limit : ℕ) (n : ℕ) (q : NamedPattern) (rest : Stmts) → StmtsBelow limit rest → StmtsBelow limit (body_then n q rest)
+body_below limit n q rest r = (tt, assigns_below limit q.set (own_assignments n q) _ (tt, r))
 
-chain_below : (p : Parts) (qs : List NamedPattern) → All (IsSoundIn p) qs → StmtsBelow (2 ^ width_bits p.width) (chain qs)
-chain_below p [] h = tt
-chain_below p (q ∷ qs) h = test_below p (q.trial.flat.fixed_mask == 0) q (chain qs) (All-head (IsSoundIn p) q qs h) (chain_below p qs (All-tail (IsSoundIn p) q qs h))
+test_below : (p : Parts) (n : ℕ) (b : Bool) (q : NamedPattern) (rest : Stmts) → IsSoundIn p q → StmtsBelow (2 ^ width_bits p.width) rest → StmtsBelow (2 ^ width_bits p.width) (test_then b n q rest)
+test_below p n true q rest h r = body_below (2 ^ width_bits p.width) n q rest r
+test_below p n false q rest h r = ((h.pattern.mask_below, h.pattern.bits_below, body_below (2 ^ width_bits p.width) n q done tt), r)
 
-no_calls : (qs : List NamedPattern) → prototypes qs ≡ [] → HaveNoCall (chain qs)
-no_calls [] h = tt
-no_calls (q ∷ qs) h = absurd (cc)
+chain_below : (p : Parts) (n : ℕ) (qs : List NamedPattern) → All (IsSoundIn p) qs → StmtsBelow (2 ^ width_bits p.width) (chain n qs)
+chain_below p n [] h = tt
+chain_below p n (q ∷ qs) h = test_below p n (q.trial.flat.fixed_mask == 0) q _ (All-head (IsSoundIn p) q qs h) (chain_below p n qs (All-tail (IsSoundIn p) q qs h))
+
+no_calls : (n : ℕ) (qs : List NamedPattern) → prototypes qs ≡ [] → HaveNoCall (chain n qs)
+no_calls n [] h = tt
+no_calls n (q ∷ qs) h = absurd (cc)
 
 pub keeps_rules : (p : Parts) → AreSound p → KeepsRules (chain_program p)
 keeps_rules p s = record {
@@ -121,6 +143,6 @@ keeps_rules p s = record {
       (pairs_map (λ x y. x ≢ y) (λ (d : SetDef). d.name) no_set p.sets s.sets_differ);
   union_with_patterns = union_empty p.patterns (map (λ d. d.name) p.sets);
   body_keeps = chain_keeps p p.patterns s.patterns_sound;
-  body_below = chain_below p p.patterns s.patterns_sound;
-  calls_with_patterns = no_calls p.patterns;
+  body_below = chain_below p (helper_bits p.width) p.patterns s.patterns_sound;
+  calls_with_patterns = no_calls (helper_bits p.width) p.patterns;
 }

@@ -6,7 +6,7 @@ use Rattle.dt_fields.specs.declared.set.SetDef.{SetDef}
 use Rattle.c_subset.specs.Programs.{Program}
 use Rattle.c_subset.specs.Spells.{Spells}
 use Rattle.dt_io.specs.Bytes.{extend}
-use Rattle.dt_forms.specs.Patterns.{TrialPattern}
+use Rattle.dt_scope.specs.Patterns.{TrialPattern}
 use Rattle.dt_match.specs.Hosts.{Answer, script}
 use Rattle.dt_match.specs.Trial.{trial_of}
 use Rattle.c_eval.specs.Runs.{run_of}

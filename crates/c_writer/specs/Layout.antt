@@ -1,17 +1,18 @@
 -- The bytes of the C text of a decoder, line by line (docs/C_SUBSET.md, "The text").
-use Rattle.std.specs.Prelude.{ℕ, ◌+◌, ◌==◌, Bool, true, false, List, [], ◌∷◌, ◌++◌, flat_map, codes, decimal, None}
+use Rattle.std.specs.Prelude.{ℕ, ◌+◌, ◌==◌, Bool, true, false, List, [], ◌∷◌, ◌++◌, flat_map, codes, decimal, Option, Some, None}
 use Rattle.dt_values.specs.declared.ctype.Member.{Member}
 use Rattle.dt_values.specs.declared.width.Width.{Width}
 use Rattle.dt_values.specs.Types.{type_name}
 use Rattle.dt_fields.specs.declared.set.SetDef.{SetDef}
 use Rattle.dt_text.specs.Hexadecimal.{hex}
 use Rattle.dt_text.specs.Pieces.{text, name, spaces, pieces_text}
-use Rattle.dt_forms.specs.Patterns.{FlatPattern}
+use Rattle.dt_scope.specs.Patterns.{FlatPattern}
 use Rattle.c_subset.specs.Exprs.{Assignment}
 use Rattle.c_subset.specs.Programs as c
 use Rattle.c_subset.specs.Programs.{Name, Extraction, Prefix, hex_length, word_type}
+use Rattle.c_eval.specs.Meaning.{helper_bits}
 use Rattle.c_fields.specs.ExprLayout.{assign_line}
-use Rattle.c_writer.specs.Parts.{NamedPattern, Parts}
+use Rattle.c_writer.specs.Parts.{NamedPattern, Parts, own_assignments}
 use Rattle.c_writer.specs.Prototypes.{prototypes}
 use Rattle.c_writer.specs.Uses.{declared_sets, used_extractions, used_sets}
 
@@ -60,12 +61,12 @@ extraction_head_line w decoder format set =
     ∷ text (codes "(DisasContext *ctx, arg_") ∷ name set ∷ text (codes " *a, ") ∷ name (word_type w)
     ∷ text (codes " insn)\n{\n") ∷ [])
 
-abbrev pub assignment_line : Width → Assignment → List ℕ
-assignment_line w a = assign_line w 4 None a.argument a.value
+abbrev pub assignment_line : Width → ℕ → Option Name → Assignment → List ℕ
+assignment_line w level set a = assign_line w level set a.argument a.value
 
 abbrev pub extraction_lines : Width → Name → Extraction → List ℕ
 extraction_lines w decoder e =
-    extraction_head_line w decoder e.format e.set ++ (flat_map (assignment_line w) e.assigns ++ close_line 0)
+    extraction_head_line w decoder e.format e.set ++ (flat_map (assignment_line w 4 None) e.assigns ++ close_line 0)
 
 abbrev pub empty_line : List ℕ
 empty_line = pieces_text (text (codes "\n") ∷ [])
@@ -112,11 +113,16 @@ call_line level prefix n set =
     pieces_text (spaces level ∷ text (codes "if (") ∷ name prefix ∷ name (codes "_") ∷ name n
     ∷ text (codes "(ctx, &u.f_") ∷ name set ∷ text (codes ")) return true;\n") ∷ [])
 
+-- what a pattern's own line assigns
+abbrev pub own_lines : Width → ℕ → NamedPattern → List ℕ
+own_lines w level q = flat_map (assignment_line w level (Some q.set)) (own_assignments (helper_bits w) q)
+
 abbrev pub body_lines : Parts → ℕ → NamedPattern → List ℕ
 body_lines p level q =
     comment_line level q.trial.flat
     ++ (extract_line level p.decoder q.format q.set
-    ++ call_line level p.prefix.name q.trial.flat.name q.set)
+    ++ (own_lines p.width level q
+    ++ call_line level p.prefix.name q.trial.flat.name q.set))
 
 abbrev pub if_line : Width → ℕ → ℕ → ℕ → List ℕ
 if_line w level mask value =

@@ -215,6 +215,8 @@ fn write_extraction<W: Out>(out: &mut W, options: &Options, sets: &[SetDef], for
     write_assignments(
         out,
         options.width,
+        4,
+        None,
         set_members(sets, format.set),
         format.values.items(),
     );

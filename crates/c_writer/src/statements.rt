@@ -2,19 +2,21 @@
 
 ghost use Rattle.std.specs.Prelude.{◌≡◌, [], false, filter, flat_map, map, All, if◌then◌else◌};
 ghost use Rattle.dt_text.specs.Puts.{Puts};
+ghost use Rattle.dt_forms.specs.Models.{definitions_in};
 ghost use Rattle.dt_forms.specs.View.{pattern_seen};
 ghost use Rattle.c_subset.specs.Programs.{hex_length};
+ghost use Rattle.c_eval.specs.Meaning.{helper_bits};
 ghost use Rattle.c_writer.specs.Layout.{body_lines, call_line, close_line, comment_line, decoder_head_lines};
 ghost use Rattle.c_writer.specs.Layout.{empty_line, end_lines, extract_line, head_of_decoder, if_line};
-ghost use Rattle.c_writer.specs.Layout.{pattern_lines, test_lines, union_end_lines, union_head_line};
+ghost use Rattle.c_writer.specs.Layout.{own_lines, pattern_lines, test_lines, union_end_lines, union_head_line};
 ghost use Rattle.c_writer.specs.Layout.{union_lines, union_set_line, union_where_patterns};
-ghost use Rattle.c_writer.specs.Parts.{named_pattern, parts_of};
+ghost use Rattle.c_writer.specs.Parts.{named_pattern, parts_of, set_name_of};
 ghost use Rattle.c_writer.specs.Uses.{is_among};
-ghost use Rattle.c_writer.specs.Within.{AreWithin, IsPatternWithin};
-ghost use Rattle.dt_forms.specs.Models.{definitions_in};
+ghost use Rattle.c_writer.specs.Within.{AreWithin, IsPatternWithin, PatternHasRoom};
 
+use crate::assignments::write_assignments;
 use crate::declarations::{word_type, write_static};
-use crate::names::{format_of, set_of};
+use crate::names::{format_of, members_of, set_of};
 use dt_fields::SetDef;
 use dt_forms::{Model, Options, Pattern};
 use dt_text::{Out, Part, write_parts};
@@ -185,9 +187,37 @@ fn write_call_line<'a, W: Out>(
     );
 }
 
+// Writes what a pattern's own line assigns to the arguments of its set, which has this name.
+fn write_own_assignments<W: Out>(
+    out: &mut W,
+    options: &Options,
+    model: &Model,
+    level: u32,
+    set: &Name,
+    pattern: &Pattern,
+)
+    requires within { AreWithin (definitions_in model.now) }
+    requires pattern { IsPatternWithin model.now.formats pattern.now }
+    requires room { PatternHasRoom (helper_bits options.now.width) pattern.now }
+    requires set { set.now ≡ set_name_of model.now.sets model.now.formats pattern.now }
+    ensures { Puts (W.state out.old) (W.state out.new) (own_lines options.now.width level
+        (named_pattern model.now.sets model.now.formats pattern.now)) }
+{
+    let members = members_of(model.sets.items(), model.formats.items(), pattern);
+    write_assignments(
+        out,
+        options.width,
+        level,
+        Some(set),
+        members,
+        pattern.values.items(),
+    );
+}
+
 fn write_body<W: Out>(out: &mut W, options: &Options, model: &Model, level: u32, pattern: &Pattern)
     requires within { AreWithin (definitions_in model.now) }
     requires pattern { IsPatternWithin model.now.formats pattern.now }
+    requires room { PatternHasRoom (helper_bits options.now.width) pattern.now }
     ensures { Puts (W.state out.old) (W.state out.new)
         (body_lines (parts_of options.now (definitions_in model.now)) level
         (named_pattern model.now.sets model.now.formats pattern.now)) }
@@ -196,6 +226,7 @@ fn write_body<W: Out>(out: &mut W, options: &Options, model: &Model, level: u32,
     let set = set_of(model.sets.items(), model.formats.items(), pattern);
     write_comment_line(out, level, pattern);
     write_extract_line(out, level, &options.decode, format, set);
+    write_own_assignments(out, options, model, level, set, pattern);
     write_call_line(out, level, &options.translate, &pattern.name, set);
 }
 
@@ -236,6 +267,7 @@ pub fn write_close_line<W: Out>(out: &mut W, level: u32)
 fn write_guarded_body<W: Out>(out: &mut W, options: &Options, model: &Model, pattern: &Pattern)
     requires within { AreWithin (definitions_in model.now) }
     requires pattern { IsPatternWithin model.now.formats pattern.now }
+    requires room { PatternHasRoom (helper_bits options.now.width) pattern.now }
     ensures { Puts (W.state out.old) (W.state out.new)
         (test_lines false (parts_of options.now (definitions_in model.now))
         (named_pattern model.now.sets model.now.formats pattern.now)) }
@@ -254,6 +286,7 @@ fn write_guarded_body<W: Out>(out: &mut W, options: &Options, model: &Model, pat
 fn write_test<W: Out>(out: &mut W, options: &Options, model: &Model, pattern: &Pattern)
     requires within { AreWithin (definitions_in model.now) }
     requires pattern { IsPatternWithin model.now.formats pattern.now }
+    requires room { PatternHasRoom (helper_bits options.now.width) pattern.now }
     ensures { Puts (W.state out.old) (W.state out.new) (pattern_lines (parts_of options.now (definitions_in model.now))
         (named_pattern model.now.sets model.now.formats pattern.now)) }
 {
@@ -269,6 +302,7 @@ fn write_test<W: Out>(out: &mut W, options: &Options, model: &Model, pattern: &P
 pub fn write_tests<W: Out>(out: &mut W, options: &Options, model: &Model, patterns: &[Pattern])
     requires within { AreWithin (definitions_in model.now) }
     requires patterns { All (IsPatternWithin model.now.formats) patterns.now }
+    requires room { All (PatternHasRoom (helper_bits options.now.width)) patterns.now }
     ensures { Puts (W.state out.old) (W.state out.new) (flat_map
         (pattern_lines (parts_of options.now (definitions_in model.now)))
         (map (named_pattern model.now.sets model.now.formats) patterns.now)) }

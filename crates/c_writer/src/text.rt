@@ -2,8 +2,8 @@
 
 ghost use Rattle.std.specs.Prelude.{◌≡◌, map, All, IfOk};
 ghost use Rattle.dt_text.specs.Puts.{Puts};
+ghost use Rattle.dt_scope.specs.Options.{IsOptions};
 ghost use Rattle.dt_forms.specs.Models.{definitions_in, trial_patterns};
-ghost use Rattle.dt_forms.specs.Options.{IsOptions};
 ghost use Rattle.dt_forms.specs.Sound.{IsSound};
 ghost use Rattle.c_eval.specs.Meaning.{helper_bits};
 ghost use Rattle.c_writer.specs.Decoders.{IsDecoder};
@@ -11,7 +11,7 @@ ghost use Rattle.c_writer.specs.Layout.{decoder_lines, layout};
 ghost use Rattle.c_writer.specs.Parts.{named_pattern, parts_of};
 ghost use Rattle.c_writer.specs.Prototypes.{prototype_seen, prototypes};
 ghost use Rattle.c_writer.specs.Uses.{TellUsed, outside_sets};
-ghost use Rattle.c_writer.specs.Within.{AreWithin, FormatHasRoom};
+ghost use Rattle.c_writer.specs.Within.{AreWithin, FormatHasRoom, PatternHasRoom};
 
 use crate::declarations::{write_extractions, write_head, write_prototypes, write_sets};
 use crate::prototype::{Prototype, prototypes};
@@ -38,6 +38,7 @@ pub fn text(alloc: Global, model: &Model, options: &Options) -> Result<Vec<u8>, 
 pub(crate) fn layout(alloc: Global, model: &Model, options: &Options) -> Result<Vec<u8>, AllocError>
     requires within { AreWithin (definitions_in model.now) }
     requires room { All (FormatHasRoom (helper_bits options.now.width)) model.now.formats }
+    requires own_room { All (PatternHasRoom (helper_bits options.now.width)) model.now.patterns }
     ensures { IfOk result (λ text. text.items ≡ layout (parts_of options.now (definitions_in model.now))) }
 {
     let sets = model.sets.items();
@@ -60,6 +61,7 @@ fn write_text<W: Out>(
 )
     requires within { AreWithin (definitions_in model.now) }
     requires room { All (FormatHasRoom (helper_bits options.now.width)) model.now.formats }
+    requires own_room { All (PatternHasRoom (helper_bits options.now.width)) model.now.patterns }
     requires declared { map prototype_seen declared.now
         ≡ prototypes (map (named_pattern model.now.sets model.now.formats) model.now.patterns) }
     requires used { TellUsed used.now (map (named_pattern model.now.sets model.now.formats) model.now.patterns) }
@@ -80,6 +82,7 @@ fn write_text<W: Out>(
 
 fn write_decoder<W: Out>(out: &mut W, options: &Options, model: &Model, used: &UsedNames)
     requires within { AreWithin (definitions_in model.now) }
+    requires own_room { All (PatternHasRoom (helper_bits options.now.width)) model.now.patterns }
     requires used { TellUsed used.now (map (named_pattern model.now.sets model.now.formats) model.now.patterns) }
     ensures { Puts (W.state out.old) (W.state out.new)
         (decoder_lines (parts_of options.now (definitions_in model.now))) }

@@ -15,40 +15,38 @@ use Rattle.dt_values.specs.Types.{is_text}
 use Rattle.dt_values.specs.declared.ctype.Member.{Member}
 use Rattle.dt_fields.specs.SoundSets.{IsSoundSet}
 use Rattle.dt_fields.specs.declared.set.SetDef.{SetDef}
-use Rattle.dt_forms.specs.declared.form.Format.{Format}
-use Rattle.dt_forms.specs.declared.form.Pattern.{Pattern}
-use Rattle.dt_forms.specs.Inference.{fits_pattern, formats_with, has_exactly, has_fields_of, matching_format, name_where, new_format, new_set, set_chosen, sets_with}
-use Rattle.dt_forms.specs.PatternLines.{argument_rows, has_other_set, set_number}
-use Rattle.dt_forms.specs.Patterns.{GivenValues}
-use Rattle.dt_forms.specs.Sound.{AreMasks, AreSoundValues, FormatHasMasks, HasMasks, HaveOneSet}
-use Rattle.dt_forms.proofs.Arguments.{arguments_are_given, member_names, new_arguments_are_given, new_set_is_sound, value_names}
+use Rattle.dt_scope.specs.declared.form.Format.{Format}
+use Rattle.dt_scope.specs.declared.form.Pattern.{Pattern}
+use Rattle.dt_forms.specs.Inference.{constants_of, fields_of, fits_pattern, formats_with, has_exactly, has_fields_of, int_member, matching_format, name_where, new_format, new_set, set_chosen, set_of_format, sets_with}
+use Rattle.dt_forms.specs.LineNames.{has_other_set, set_number}
+use Rattle.dt_scope.specs.Patterns.{GivenValues}
+use Rattle.dt_forms.specs.Sound.{AreSoundValues, FormatHasMasks, GivesArguments, HasMasks, HaveOneSet, argument_names, given_names}
+use Rattle.dt_forms.proofs.Arguments.{AreArgumentsIn, member_names, new_set_is_sound, value_names}
 use Rattle.dt_forms.proofs.LineValues.{AreGiven}
 use Rattle.dt_fields.proofs.NewNames.{none_passes}
+use Rattle.dt_forms.proofs.TakenFields.{new_with_constants, taken_with_constants}
 use Rattle.dt_forms.proofs.Unbroken.{other_half, text_same}
 
 -- the arguments of the set of this number
 abbrev pub members_at : List SetDef → ℕ → List Member
 members_at sets n = get_or (map (λ s. s.members) sets) n []
 
--- the number of the set of the format of this number
-abbrev pub set_at_format : List Format → ℕ → ℕ
-set_at_format formats n = get_or (map (λ f. f.set) formats) n 0
-
 pub record IsSoundFormat (width : ℕ) (sets : List SetDef) (f : Format) : Type 0 where
   pub named : IsName f.name
   pub masks : FormatHasMasks width f
   pub set : f.set < length sets
   pub values : AreSoundValues width f.values
-  pub arguments : IsPermutation (value_names f.values) (member_names (members_at sets f.set))
+  pub arguments : AreArgumentsIn f.values (members_at sets f.set)
 
--- a pattern with a format of these, which gives no value of its own
-pub record IsSoundOf (width : ℕ) (formats : List Format) (p : Pattern) : Type 0 where
+-- a pattern with a format of these, which has a set of these and gives its arguments values
+pub record IsSoundOf (width : ℕ) (sets : List SetDef) (formats : List Format) (p : Pattern) : Type 0 where
   pub named : IsName p.name
   pub masks : HasMasks width p
-  pub below : p.fixed_bits < 2 ^ width
   pub bits : p.bits ≡ width
   pub format : p.format < length formats
-  pub values : p.values ≡ []
+  pub set : set_number formats p < length sets
+  pub values : AreSoundValues width p.values
+  pub arguments : GivesArguments sets formats p
 
 abbrev pub SetsDiffer : List SetDef → Type 0
 SetsDiffer sets = AllPairs (λ s t. s.name ≢ t.name) sets
@@ -67,35 +65,62 @@ format_kept width sets more f h = record {
   masks = h.masks;
   set = let below : f.set < length sets = h.set in omega (arith, length-append sets more);
   values = h.values;
-  arguments = subst (λ ms. IsPermutation (value_names f.values) (member_names ms)) (sym (members_kept sets more f.set h.set)) h.arguments;
+  arguments = subst (AreArgumentsIn f.values) (sym (members_kept sets more f.set h.set)) h.arguments;
 }
 
-pub set_number_kept : (formats more : List Format) (n : ℕ) → n < length formats → set_at_format (formats ++ more) n ≡ set_at_format formats n
+pub set_number_kept : (formats more : List Format) (n : ℕ) → n < length formats → set_of_format (formats ++ more) n ≡ set_of_format formats n
 set_number_kept formats more n h =
     ap (λ ms. get_or ms n 0) (map-append (λ (f : Format). f.set) formats more)
     ∙ get_or_append_left (map (λ (f : Format). f.set) formats) (map (λ (f : Format). f.set) more) 0 n (omega (arith, length-map formats (λ (f : Format). f.set)))
 
-pub pattern_kept : (width : ℕ) (formats more : List Format) (p : Pattern) → IsSoundOf width formats p → IsSoundOf width (formats ++ more) p
-pattern_kept width formats more p h = record {
+-- what a format of this number gives
+abbrev pub values_at : List Format → ℕ → GivenValues
+values_at formats n = get_or (map (λ f. f.values) formats) n []
+
+values_kept : (formats more : List Format) (n : ℕ) → n < length formats → values_at (formats ++ more) n ≡ values_at formats n
+values_kept formats more n h =
+    ap (λ ms. get_or ms n []) (map-append (λ (f : Format). f.values) formats more)
+    ∙ get_or_append_left (map (λ (f : Format). f.values) formats) (map (λ (f : Format). f.values) more) [] n (omega (arith, length-map formats (λ (f : Format). f.values)))
+
+-- a pattern stays what it is where sets come behind the others, or formats
+pub kept_by_sets : (width : ℕ) (sets more : List SetDef) (formats : List Format) (p : Pattern) → IsSoundOf width sets formats p → IsSoundOf width (sets ++ more) formats p
+kept_by_sets width sets more formats p h = record {
   named = h.named;
   masks = h.masks;
-  below = h.below;
   bits = h.bits;
-  format = let below : p.format < length formats = h.format in omega (arith, length-append formats more);
+  format = h.format;
+  set = let below : set_number formats p < length sets = h.set in omega (arith, length-append sets more);
   values = h.values;
+  arguments = subst (λ ms. IsPermutation (given_names formats p) (member_names ms)) (sym (members_kept sets more (set_number formats p) h.set)) h.arguments;
 }
+
+pub kept_by_formats : (width : ℕ) (sets : List SetDef) (formats more : List Format) (p : Pattern) → IsSoundOf width sets formats p → IsSoundOf width sets (formats ++ more) p
+kept_by_formats width sets formats more p h =
+    let number : set_number (formats ++ more) p ≡ set_number formats p = set_number_kept formats more p.format h.format in
+    let values : values_at (formats ++ more) p.format ≡ values_at formats p.format = values_kept formats more p.format h.format in
+    record {
+      named = h.named;
+      masks = h.masks;
+      bits = h.bits;
+      format = let below : p.format < length formats = h.format in omega (arith, length-append formats more);
+      set = let below : set_number formats p < length sets = h.set in omega arith;
+      values = h.values;
+      arguments = subst (λ n. IsPermutation (given_names (formats ++ more) p) (member_names (members_at sets n))) (sym number)
+          (subst (λ vs. IsPermutation (value_names (vs ++ p.values)) (argument_names sets formats p)) (sym values) h.arguments);
+    }
 
 -- one set more, of a name that no other has
 pub names_differ_more : (sets : List SetDef) (s : SetDef) → SetsDiffer sets → All (λ t. t.name ≢ s.name) sets → SetsDiffer (sets ++ s ∷ [])
 names_differ_more sets s h new = all_pairs_push (λ (a b : SetDef). a.name ≢ b.name) sets s h new
 
--- what a choice of a set gives to a line with these values
-pub record IsSetChosen (width : ℕ) (sets after : List SetDef) (n : ℕ) (values : GivenValues) : Type 0 where
+-- what a choice of a set gives, whose arguments are such
+pub record IsSetChosen (width : ℕ) (sets after : List SetDef) (n : ℕ) (AreSuch : List Member → Type 0) : Type 0 where
   pub sound : All IsSoundSet after
   pub differ : SetsDiffer after
   pub number : n < length after
-  pub arguments : IsPermutation (value_names values) (member_names (members_at after n))
-  pub keeps : (f : Format) → IsSoundFormat width sets f → IsSoundFormat width after f
+  pub arguments : AreSuch (members_at after n)
+  pub keeps_format : (f : Format) → IsSoundFormat width sets f → IsSoundFormat width after f
+  pub keeps : (formats : List Format) (p : Pattern) → IsSoundOf width sets formats p → IsSoundOf width after formats p
   pub few : length after ≤ length sets + 1
 
 place_or_length : (b : Bool) (place count : ℕ) → nat_lt place count ≡ b → unwrap_or (if b then Some place else None) count ≤ count
@@ -111,25 +136,25 @@ below_or_last : (n m : ℕ) → n ≤ m → (n == m) ≡ false → n < m
 below_or_last n m h e = grind (arith, nat_tests)
 
 -- a set that is there, or a new one
-pub choose_set : (width : ℕ) (sets : List SetDef) (n : ℕ) (values : GivenValues) (name : List ℕ) (is_new : Bool) → n ≤ length sets → (n == length sets) ≡ is_new
-    → AreGiven width values → argument_rows values (slice_get sets n) ≡ []
+pub choose_set : (width : ℕ) (sets : List SetDef) (n : ℕ) (values : GivenValues) (name : List ℕ) (is_new : Bool) (AreSuch : List Member → Type 0) → n ≤ length sets → (n == length sets) ≡ is_new
+    → AreGiven width values → ((s : SetDef) → slice_get sets n ≡ Some s → IsSoundSet s → AreSuch s.members) → AreSuch (map int_member values)
     → All IsSoundSet sets → SetsDiffer sets → (is_new ≡ true → IsName name × All (λ t. t.name ≢ name) sets)
-    → IsSetChosen width sets (sets_with sets values (name_where is_new name)) n values
-choose_set width sets n values name false within e given rows sound differ new =
+    → IsSetChosen width sets (sets_with sets values (name_where is_new name)) n AreSuch
+choose_set width sets n values name false AreSuch within e given old fresh sound differ new =
     let below : n < length sets = below_or_last n (length sets) within e in
     let d : SetDef = new_set name values in
     let there : slice_get sets n ≡ Some (get_or sets n d) = slice_get-get_or sets n d below in
     let members : members_at sets n ≡ (get_or sets n d).members = get_or-map (λ (s : SetDef). s.members) sets n d [] below in
-    let arguments = arguments_are_given width values (get_or sets n d) given (sound n d below) (ap (argument_rows values) (sym there) ∙ rows) in
     record {
       sound = sound;
       differ = differ;
       number = below;
-      arguments = subst (λ ms. IsPermutation (value_names values) (member_names ms)) (sym members) arguments;
-      keeps = λ f h. h;
+      arguments = subst AreSuch (sym members) (old (get_or sets n d) there (sound n d below));
+      keeps_format = λ f h. h;
+      keeps = λ formats p h. h;
       few = omega arith;
     }
-choose_set width sets n values name true within e given rows sound differ new =
+choose_set width sets n values name true AreSuch within e given old fresh sound differ new =
     let last : n ≡ length sets = eqb-true n (length sets) e in
     let s : SetDef = new_set name values in
     let count : length (sets ++ s ∷ []) ≡ length sets + 1 = length_push sets s in
@@ -141,57 +166,68 @@ choose_set width sets n values name true within e given rows sound differ new =
       sound = All-push IsSoundSet sets s sound (new_set_is_sound width name values (new refl).0 given);
       differ = names_differ_more sets s differ (new refl).1;
       number = omega arith;
-      arguments = subst (λ ms. IsPermutation (value_names values) (member_names ms)) (sym members) (new_arguments_are_given values);
-      keeps = λ f h. format_kept width sets (s ∷ []) f h;
+      arguments = subst AreSuch (sym members) fresh;
+      keeps_format = λ f h. format_kept width sets (s ∷ []) f h;
+      keeps = λ formats p h. kept_by_sets width sets (s ∷ []) formats p h;
       few = omega arith;
     }
 
--- what a choice of a format gives
-pub record IsFormatChosen (width : ℕ) (sets : List SetDef) (formats after : List Format) (set n : ℕ) : Type 0 where
+-- what a choice of a format gives to a pattern whose line gives these values
+pub record IsFormatChosen (width : ℕ) (sets : List SetDef) (formats after : List Format) (set n : ℕ) (values : GivenValues) : Type 0 where
   pub sound : All (IsSoundFormat width sets) after
   pub differ : FormatsDiffer after
   pub number : n < length after
-  pub set_of : set_at_format after n ≡ set
-  pub keeps : (p : Pattern) → IsSoundOf width formats p → IsSoundOf width after p
-  pub keeps_set : (p : Pattern) → IsSoundOf width formats p → set_number after p ≡ set_number formats p
+  pub set_of : set_of_format after n ≡ set
+  pub names : IsPermutation (value_names (values_at after n ++ constants_of values)) (value_names values)
+  pub keeps : (p : Pattern) → IsSoundOf width sets formats p → IsSoundOf width sets after p
+  pub keeps_set : (p : Pattern) → IsSoundOf width sets formats p → set_number after p ≡ set_number formats p
   pub few : length after ≤ length formats + 1
 
-fits_set : (width set : ℕ) (values : GivenValues) (f : Format) → fits_pattern width set values f ≡ true → f.set ≡ set
-fits_set width set values f h = eqb-true f.set set (and_parts (f.set == set) ((f.bits == width) && has_fields_of values f) h).0
+-- the parts of the test
+fits_set : (width set : ℕ) (values : GivenValues) (f : Format) → fits_pattern width set values f ≡ true → (f.set ≡ set) × (has_fields_of values f ≡ true)
+fits_set width set values f h =
+    let parts = and_parts (f.set == set) ((f.bits == width) && has_fields_of values f) h in
+    (eqb-true f.set set parts.0, (and_parts (f.bits == width) (has_fields_of values f) parts.1).1)
+
+last_of_map : {X Y : Type 0} (f : X → Y) (xs : List X) (x : X) (d : Y) (n : ℕ) → n ≡ length xs → get_or (map f (xs ++ x ∷ [])) n d ≡ f x
+last_of_map f xs x d n last =
+    ap (λ ys. get_or ys n d) (map-append f xs (x ∷ [])) ∙ get_or_push (map f xs) (f x) d n (length-map xs f ∙ sym last)
 
 pub choose_format : (width : ℕ) (sets : List SetDef) (formats : List Format) (set : ℕ) (values : GivenValues) (name : List ℕ) (is_new : Bool) → (matching_format width set values formats == length formats) ≡ is_new
-    → All (IsSoundFormat width sets) formats → FormatsDiffer formats
-    → (is_new ≡ true → IsSoundFormat width sets (new_format width name set values) × All (λ f. f.name ≢ name) formats)
-    → IsFormatChosen width sets formats (formats_with width formats set values (name_where is_new name)) set (matching_format width set values formats)
-choose_format width sets formats set values name false e sound differ new =
+    → AreGiven width values → All (IsSoundFormat width sets) formats → FormatsDiffer formats
+    → (is_new ≡ true → IsSoundFormat width sets (new_format width name set (fields_of values)) × All (λ f. f.name ≢ name) formats)
+    → IsFormatChosen width sets formats (formats_with width formats set (fields_of values) (name_where is_new name)) set (matching_format width set values formats) values
+choose_format width sets formats set values name false e given sound differ new =
     let n : ℕ = matching_format width set values formats in
     let within : n ≤ length formats = prefix_len-le-length (λ f. not (fits_pattern width set values f)) formats in
     let below : n < length formats = below_or_last n (length formats) within e in
     let d : Format = new_format width name set values in
-    let chosen : fits_pattern width set values (get_or formats n d) ≡ true = passes_at_first (fits_pattern width set values) formats d below in
+    let f : Format = get_or formats n d in
+    let chosen = fits_set width set values f (passes_at_first (fits_pattern width set values) formats d below) in
+    let listed : values_at formats n ≡ f.values = get_or-map (λ (f : Format). f.values) formats n d [] below in
     record {
       sound = sound;
       differ = differ;
       number = below;
-      set_of = get_or-map (λ (f : Format). f.set) formats n d 0 below ∙ fits_set width set values (get_or formats n d) chosen;
+      set_of = get_or-map (λ (f : Format). f.set) formats n d 0 below ∙ chosen.0;
+      names = subst (λ vs. IsPermutation (value_names (vs ++ constants_of values)) (value_names values)) (sym listed)
+          (taken_with_constants values f given.differ (sound n d below).arguments.differ chosen.1);
       keeps = λ p h. h;
       keeps_set = λ p h. refl;
       few = omega arith;
     }
-choose_format width sets formats set values name true e sound differ new =
+choose_format width sets formats set values name true e given sound differ new =
     let n : ℕ = matching_format width set values formats in
     let last : n ≡ length formats = eqb-true n (length formats) e in
-    let f : Format = new_format width name set values in
+    let f : Format = new_format width name set (fields_of values) in
     let count : length (formats ++ f ∷ []) ≡ length formats + 1 = length_push formats f in
-    let listed : map (λ (f : Format). f.set) (formats ++ f ∷ []) ≡ map (λ (f : Format). f.set) formats ++ set ∷ [] = map-append (λ (f : Format). f.set) formats (f ∷ []) in
     record {
       sound = All-push (IsSoundFormat width sets) formats f sound (new refl).0;
       differ = all_pairs_push (λ (f g : Format). f.name ≢ g.name) formats f differ (new refl).1;
       number = omega arith;
-      set_of =
-          ap (λ ns. get_or ns n 0) listed
-          ∙ get_or_push (map (λ (f : Format). f.set) formats) set 0 n (length-map formats (λ (f : Format). f.set) ∙ sym last);
-      keeps = λ p h. pattern_kept width formats (f ∷ []) p h;
+      set_of = last_of_map (λ (f : Format). f.set) formats f 0 n last;
+      names = subst (λ vs. IsPermutation (value_names (vs ++ constants_of values)) (value_names values)) (sym (last_of_map (λ (f : Format). f.values) formats f [] n last)) (new_with_constants values);
+      keeps = λ p h. kept_by_formats width sets formats (f ∷ []) p h;
       keeps_set = λ p h. set_number_kept formats (f ∷ []) p.format h.format;
       few = omega arith;
     }

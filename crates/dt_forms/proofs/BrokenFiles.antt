@@ -8,7 +8,7 @@ use Rattle.dt_lines.specs.declared.fault.LineFault.TheVariants as of_lines
 use Rattle.dt_forms.specs.declared.fault.ModelFault.{ModelFault}
 use Rattle.dt_forms.specs.declared.fault.ModelFault.TheVariants as of_files
 use Rattle.dt_forms.specs.FileFaults.{HaveNoFileFault, fault_in_file, fault_of_files, file_fault, first_broken, model_fault}
-use Rattle.dt_forms.specs.declared.options.Options.{Options}
+use Rattle.dt_scope.specs.declared.options.Options.{Options}
 use Rattle.dt_forms.specs.Rules.{Fault, first_fault}
 use Rattle.dt_forms.specs.View.{FileBroken}
 

@@ -1,10 +1,10 @@
 -- The first of all faults, and faults of lines behind others.
 use Rattle.std.proofs.Common.{◌≡◌, ℕ, List, [], ◌∷◌, ◌++◌, map, Option, Some, None, refl, ap, ◌∙◌, sym, append_assoc}
 use Rattle.dt_fields.specs.Faults.{Broken, first}
-use Rattle.dt_forms.specs.declared.options.Options.{Options}
+use Rattle.dt_scope.specs.declared.options.Options.{Options}
 use Rattle.dt_forms.specs.FileLines.{FileLine}
 use Rattle.dt_forms.specs.Rules.{Fault, after_line, after_lines, fault_on, faults_from, faults_of_line}
-use Rattle.dt_forms.specs.Scope.{Scope}
+use Rattle.dt_scope.specs.Scope.{Scope}
 
 pub first_prefix : {A : Type 0} (faults more : List A) (f : A) → first faults ≡ Some f → first (faults ++ more) ≡ Some f
 first_prefix [] more f h = absurd (cc)

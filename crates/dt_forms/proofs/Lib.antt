@@ -1,8 +1,7 @@
-pub mod BinaryNumbers
-pub mod PatternDigits
-pub mod PatternNames
+pub mod OtherSets
+pub mod SetNumbers
+pub mod Shares
 pub mod NewArguments
-pub mod Gathering
 pub mod Faults
 pub mod ReadLines
 pub mod ReadFiles
@@ -13,13 +12,13 @@ pub mod HeadTokens
 pub mod NumberedNames
 pub mod OptionNames
 pub mod Entries
-pub mod Widths
-pub mod Fits
 pub mod SameNames
 pub mod SameFields
 pub mod LineValues
 pub mod KeptFieldLines
 pub mod Arguments
+pub mod TakenFields
+pub mod JoinedMasks
 pub mod Unbroken
 pub mod Additions
 pub mod SoundBits

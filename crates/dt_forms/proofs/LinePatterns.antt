@@ -5,20 +5,19 @@ use Rattle.std.specs.List.{All, AllPairs}
 use Rattle.std.proofs.lemmas.List.Elements.{All-head, All-tail, All-nil, All-push, All-weaker}
 use Rattle.std.proofs.lemmas.List.Quantifiers.{all_pairs_push}
 use Rattle.dt_lines.specs.declared.line.Position.{Position}
-use Rattle.dt_forms.specs.declared.form.Pattern.{Pattern}
+use Rattle.dt_scope.specs.declared.form.Pattern.{Pattern}
 use Rattle.dt_forms.specs.declared.head.Head.{Head}
 use Rattle.dt_forms.specs.declared.head.Head.TheVariants as head
-use Rattle.dt_forms.specs.declared.options.Options.{Options}
-use Rattle.dt_forms.specs.Bits.{bits_of}
+use Rattle.dt_scope.specs.declared.options.Options.{Options}
 use Rattle.dt_forms.specs.FileLines.{FileLine, line_position}
-use Rattle.dt_forms.specs.Gathering.{gathered}
+use Rattle.dt_scope.specs.Gathering.{gathered}
 use Rattle.dt_forms.specs.Heads.{head_of}
 use Rattle.dt_values.specs.Widths.{width_bits}
-use Rattle.dt_forms.specs.Inference.{choice_of}
-use Rattle.dt_forms.specs.PatternLines.{pattern_with}
+use Rattle.dt_forms.specs.Inference.{choice_of, named_format}
+use Rattle.dt_forms.specs.PatternLines.{pattern_of}
 use Rattle.dt_forms.specs.Positions.{leading_token}
 use Rattle.dt_forms.specs.Rules.{after_head, after_line, after_lines, after_tokens}
-use Rattle.dt_forms.specs.Scope.{Scope, nothing_defined}
+use Rattle.dt_scope.specs.Scope.{Scope, nothing_defined}
 use Rattle.dt_forms.specs.Sound.{IsBefore, IsEarlier, pattern_position}
 use Rattle.dt_forms.proofs.HeadTokens.{pattern_is_first}
 use Rattle.dt_forms.proofs.LineOrder.{IsFrom, Rises}
@@ -43,13 +42,13 @@ AddsAtMost before after position token = (after ≡ before) ⊎ AddsPattern befo
 module _ (options : Options) where
   head_adds : (scope : Scope) (position : Position) (first : List ℕ) (rest : List (List ℕ)) (hd : Head) → head_of first ≡ hd → AddsAtMost scope.patterns (after_head options scope position first rest hd).patterns position first
   head_adds scope position first rest head.Group e = inl refl
-  head_adds scope position first rest head.Format e = inl refl
   head_adds scope position first rest (head.Field name) e = inl refl
   head_adds scope position first rest (head.Set name) e = inl refl
+  head_adds scope position first rest (head.Format name) e = inl refl
   head_adds scope position first rest (head.Pattern name) e = inr (record {
     pattern =
         let g = gathered (width_bits options.width) scope.fields rest in
-        pattern_with position name (choice_of options scope.sets scope.formats g).format (bits_of g.digits);
+        pattern_of (width_bits options.width) (choice_of options scope.sets scope.formats g) (named_format scope.formats g.format) position name g;
     added = refl;
     on = record { stands = refl; name = pattern_is_first first name e };
   })

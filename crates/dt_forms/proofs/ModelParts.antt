@@ -2,14 +2,14 @@
 use Rattle.std.proofs.Common.{◌≡◌, ℕ, List, [], ◌∷◌, length, map, ap, ◌∙◌, sym}
 use Rattle.std.proofs.lemmas.List.{length-map}
 use Rattle.dt_fields.specs.declared.set.SetDef.{SetDef}
-use Rattle.dt_forms.specs.declared.form.Format.{Format}
-use Rattle.dt_forms.specs.declared.form.Pattern.{Pattern}
+use Rattle.dt_scope.specs.declared.form.Format.{Format}
+use Rattle.dt_scope.specs.declared.form.Pattern.{Pattern}
 use Rattle.dt_forms.specs.declared.model.Model.{Model}
-use Rattle.dt_forms.specs.declared.options.Options.{Options}
+use Rattle.dt_scope.specs.declared.options.Options.{Options}
 use Rattle.dt_forms.specs.FileLines.{all_lines}
 use Rattle.dt_forms.specs.Models.{Definitions, IsModelOf, IsModelOfScope, definitions_in, definitions_in_scope, flat_list}
 use Rattle.dt_forms.specs.Rules.{scope_before}
-use Rattle.dt_forms.specs.Scope.{Scope}
+use Rattle.dt_scope.specs.Scope.{Scope}
 use Rattle.dt_forms.specs.Trees.{entries_of, items_of, items_from, numbers_from, one}
 use Rattle.dt_forms.specs.View.{pattern_seen}
 

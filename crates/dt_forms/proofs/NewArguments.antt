@@ -6,9 +6,9 @@ use Rattle.std.specs.List.{list_all, list_any, position_or_len}
 use Rattle.dt_fields.specs.Arguments.{has_argument}
 use Rattle.dt_fields.specs.SetLines.{has_member}
 use Rattle.dt_fields.specs.declared.set.SetDef.{SetDef}
-use Rattle.dt_forms.specs.ElementRows.{has_value}
+use Rattle.dt_scope.specs.ElementRows.{has_value}
 use Rattle.dt_forms.specs.Inference.{has_exactly, has_new_argument, is_int, matching_set}
-use Rattle.dt_forms.specs.Patterns.{GivenValues}
+use Rattle.dt_scope.specs.Patterns.{GivenValues}
 
 -- what is new to a set and to others is so to each
 parts : (here there all old new : Bool) → (not (here || there) || old) ≡ true → (old ≡ true → (all ≡ false) × (new ≡ true)) → ((here && all) ≡ false) × ((not there || new) ≡ true)

@@ -11,7 +11,7 @@ use Rattle.std.proofs.lemmas.List.Folds.{list_all-append}
 use Rattle.std.proofs.lemmas.Fmt.{decimal_is_IsNumeral, length-decimal-le}
 use Rattle.dt_values.specs.Names.{IsName, is_name_byte}
 use Rattle.dt_values.specs.declared.name.TheConstants.{LONGEST_NAME}
-use Rattle.dt_forms.specs.Options.{IsOptionName}
+use Rattle.dt_scope.specs.Options.{IsOptionName}
 
 digit_is_name_byte : (c : ℕ) → digit_value c < 10 → is_name_byte c ≡ true
 digit_is_name_byte c h = grind (arith, nat_tests)

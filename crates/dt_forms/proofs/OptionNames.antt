@@ -5,7 +5,7 @@ use Rattle.std.specs.List.{All, list_all}
 use Rattle.std.proofs.lemmas.Bool.Decides.{nat_tests}
 use Rattle.dt_values.specs.Names.{IsName, is_name_byte}
 use Rattle.dt_values.specs.declared.name.TheConstants.{LONGEST_NAME}
-use Rattle.dt_forms.specs.Options.{IsOptionName}
+use Rattle.dt_scope.specs.Options.{IsOptionName}
 
 -- name bytes, at least one and few enough, are a name
 bytes_named : (bytes : List ℕ) → IsTrue (nat_lt 0 (length bytes)) → IsTrue (nat_le (length bytes) LONGEST_NAME) → IsTrue (list_all is_name_byte bytes) → IsName bytes

@@ -5,11 +5,11 @@ use Rattle.dt_lines.specs.Lines.{logical_lines}
 use Rattle.dt_fields.specs.Faults.{first}
 use Rattle.dt_forms.specs.declared.fault.ModelFault.{ModelFault}
 use Rattle.dt_forms.specs.declared.fault.ModelFault.TheVariants as faults
-use Rattle.dt_forms.specs.declared.options.Options.{Options}
+use Rattle.dt_scope.specs.declared.options.Options.{Options}
 use Rattle.dt_forms.specs.declared.source.Source.{Source}
 use Rattle.dt_forms.specs.FileLines.{FileLine, in_file, lines_of_files}
 use Rattle.dt_forms.specs.Rules.{Fault, after_lines, faults_from}
-use Rattle.dt_forms.specs.Scope.{Scope}
+use Rattle.dt_scope.specs.Scope.{Scope}
 use Rattle.dt_forms.specs.View.{FileBroken, IsReported, ModelBroken, text_of_file, texts_of}
 use Rattle.dt_forms.proofs.Faults.{after_append, faults_append, first_prefix}
 

@@ -7,10 +7,10 @@ use Rattle.dt_fields.specs.Faults.{Broken, first}
 use Rattle.dt_fields.specs.View.{DefBroken, detail_seen}
 use Rattle.dt_fields.specs.declared.fault.DefFault.{DefFault}
 use Rattle.dt_fields.specs.declared.fault.DefFault.TheVariants as def_faults
-use Rattle.dt_forms.specs.declared.options.Options.{Options}
+use Rattle.dt_scope.specs.declared.options.Options.{Options}
 use Rattle.dt_forms.specs.FileLines.{FileLine, in_file}
 use Rattle.dt_forms.specs.Rules.{Fault, after_line, after_lines, fault_on, faults_from, faults_of_line}
-use Rattle.dt_forms.specs.Scope.{Scope}
+use Rattle.dt_scope.specs.Scope.{Scope}
 use Rattle.dt_forms.specs.View.{FileBroken, fault_at}
 use Rattle.dt_forms.proofs.Faults.{first_on}
 

@@ -4,9 +4,9 @@ use Rattle.std.specs.Prelude.{if◌then◌else◌}
 use Rattle.std.proofs.lemmas.Bool.{cases_eq}
 use Rattle.std.proofs.lemmas.Bool.Decides.{nat_tests}
 use Rattle.std.proofs.lemmas.Nat.{and_block}
-use Rattle.dt_forms.specs.Bits.{fixed_digit, one_digit, ignored_digit, number_of}
+use Rattle.dt_scope.specs.Bits.{fixed_digit, one_digit, ignored_digit, number_of}
 use Rattle.dt_forms.specs.Sound.{AreMasks}
-use Rattle.dt_forms.proofs.BinaryNumbers.{fixed_is_digit, ignored_is_digit, number_below, one_is_digit}
+use Rattle.dt_scope.proofs.BinaryNumbers.{fixed_is_digit, ignored_is_digit, number_below, one_is_digit}
 
 -- the ones are under the fixed mask, bit by bit
 one_under : (zeros ones : Bool) → bit_and (if ones then 1 else 0) (if zeros || ones then 1 else 0) ≡ (if ones then 1 else 0)

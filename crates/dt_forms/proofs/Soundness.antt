@@ -1,6 +1,6 @@
 -- The model of files that break no rule is sound.
-use Rattle.std.proofs.Common.{◌≡◌, ◌≢◌, ℕ, zero, suc, ◌+◌, ◌*◌, ◌^◌, ◌<◌, ◌≤◌, List, [], ◌∷◌, ◌++◌, length, get_or, map, None, refl, ap, ap₂, ◌∙◌, sym, subst, arith, add-one, append-nil}
-use Rattle.std.specs.Prelude.{IsPermutation}
+use Rattle.std.proofs.Common.{◌≡◌, ◌≢◌, ℕ, zero, suc, ◌+◌, ◌*◌, ◌^◌, ◌<◌, ◌≤◌, List, [], ◌∷◌, ◌++◌, length, get_or, map, None, refl, ap, ◌∙◌, sym, subst, arith, add-one, bit_and}
+use Rattle.std.proofs.lemmas.Nat.{and_le_r}
 use Rattle.std.specs.List.{All, AllPairs}
 use Rattle.std.proofs.lemmas.List.{get_or-map, length-map}
 use Rattle.std.proofs.lemmas.List.Elements.{All-nil, All-cons, All-map, All-same, All-weaker}
@@ -9,25 +9,22 @@ use Rattle.dt_values.specs.Widths.{width_bits}
 use Rattle.dt_lines.specs.declared.line.Position.{Position}
 use Rattle.dt_fields.specs.SoundSets.{IsSoundSet}
 use Rattle.dt_fields.specs.declared.set.SetDef.{SetDef}
-use Rattle.dt_forms.specs.declared.form.Format.{Format}
-use Rattle.dt_forms.specs.declared.form.Pattern.{Pattern}
+use Rattle.dt_scope.specs.declared.form.Format.{Format}
+use Rattle.dt_scope.specs.declared.form.Pattern.{Pattern}
 use Rattle.dt_forms.specs.declared.model.Model.{Model}
-use Rattle.dt_forms.specs.declared.options.Options.{Options}
+use Rattle.dt_scope.specs.declared.options.Options.{Options}
 use Rattle.dt_forms.specs.declared.reader.TheConstants.{MOST_FILES, MOST_PATTERNS}
 use Rattle.dt_forms.specs.FileLines.{FileLine, all_lines}
-use Rattle.dt_forms.specs.Inference.{new_format}
 use Rattle.dt_forms.specs.Models.{Definitions, IsModelOf, definitions_in, definitions_of, flat_list}
-use Rattle.dt_forms.specs.Options.{IsOptionName}
-use Rattle.dt_forms.specs.PatternLines.{set_number}
-use Rattle.dt_forms.specs.Patterns.{FlatPattern, position_of}
+use Rattle.dt_scope.specs.Options.{IsOptionName}
+use Rattle.dt_scope.specs.Patterns.{FlatPattern, position_of}
 use Rattle.dt_forms.specs.Positions.{first_token_at, leading_token}
 use Rattle.dt_forms.specs.Rules.{faults_from, first_fault, scope_before}
-use Rattle.dt_forms.specs.Scope.{Scope, nothing_defined}
+use Rattle.dt_scope.specs.Scope.{Scope, nothing_defined}
 use Rattle.dt_forms.specs.Sound.{AreSoundValues, FormatHasMasks, GivesArguments, HasMasks, HaveOneSet, IsBefore, IsEarlier, IsSound, IsSoundPattern, argument_names, depth, given_names, pattern_position, positions_of}
 use Rattle.dt_forms.specs.Trees.{one, items_from, items_of, numbers_of, numbers_from}
 use Rattle.dt_forms.specs.View.{pattern_seen}
-use Rattle.dt_forms.proofs.Additions.{IsSoundFormat, IsSoundOf, members_at, set_at_format}
-use Rattle.dt_forms.proofs.Arguments.{member_names, value_names}
+use Rattle.dt_forms.proofs.Additions.{IsSoundOf}
 use Rattle.dt_forms.proofs.Entries.{numbers_of_ones}
 use Rattle.dt_forms.proofs.Faults.{no_first}
 use Rattle.dt_forms.proofs.LineOrder.{HasFirstToken, IsPlaced, all_found, all_rise, files_few, files_placed}
@@ -62,12 +59,18 @@ patterns_placed options texts few short =
     all_hold options IsPlacedPattern (all_lines texts)
     (All-weaker (IsPlaced MOST_FILES) (λ (l : FileLine). (p : Pattern) → IsPatternOn l p → IsPlacedPattern p) placed_on (all_lines texts) (files_placed MOST_FILES 0 texts (omega arith) short))
 
-sound_pattern : (width : ℕ) (formats : List Format) (p : Pattern) → IsSoundOf width formats p → IsPlacedPattern p → IsSoundPattern width (pattern_seen p)
-sound_pattern width formats p h placed = record {
+-- bits under a mask are below what the mask is below
+bits_below : (bits mask bound : ℕ) → bit_and bits mask ≡ bits → mask < bound → bits < bound
+bits_below bits mask bound h below =
+    let under : bit_and bits mask ≤ mask = and_le_r bits mask in
+    omega arith
+
+sound_pattern : (width : ℕ) (sets : List SetDef) (formats : List Format) (p : Pattern) → IsSoundOf width sets formats p → IsPlacedPattern p → IsSoundPattern width (pattern_seen p)
+sound_pattern width sets formats p h placed = record {
   named = h.named;
   bits = h.bits;
   mask_below = h.masks.fixed_below;
-  bits_below = h.below;
+  bits_below = bits_below p.fixed_bits p.fixed_mask (2 ^ width) h.masks.bits_in_mask h.masks.fixed_below;
   bits_in_mask = h.masks.bits_in_mask;
   file_below = let low : p.file < MOST_FILES = placed.0 in omega arith;
   line_below = placed.1;
@@ -80,7 +83,7 @@ flat_list_sound options texts decode few short none =
     let sound = files_sound options texts decode few short none in
     let placed = patterns_placed options texts few short in
     All-map (IsSoundPattern (width_bits options.width)) pattern_seen scope.patterns
-    (λ k d below. sound_pattern (width_bits options.width) scope.formats (get_or scope.patterns k d) (sound.patterns k d below) (placed k d below))
+    (λ k d below. sound_pattern (width_bits options.width) scope.sets scope.formats (get_or scope.patterns k d) (sound.patterns k d below) (placed k d below))
 
 -- the name of a pattern is the first token at its position
 abbrev IsNamedIn : List (List ℕ) → Pattern → Type 0
@@ -154,19 +157,7 @@ record AreSoundParts (width : ℕ) (d : Definitions) : Type 0 where
   one_set : AllPairs (HaveOneSet d.formats) d.patterns
   values : All (GivesArguments d.sets d.formats) d.patterns
   format_values : All (λ f. AreSoundValues width f.values) d.formats
-  pattern_values : All (λ p. p.values ≡ []) d.patterns
-
--- a pattern's format gives what its set has
-arguments_given : (width : ℕ) (sets : List SetDef) (formats : List Format) (p : Pattern) → All (IsSoundFormat width sets) formats → IsSoundOf width formats p → GivesArguments sets formats p
-arguments_given width sets formats p all h =
-    let d : Format = new_format 0 [] 0 [] in
-    let f : Format = get_or formats p.format d in
-    let sound : IsSoundFormat width sets f = all p.format d h.format in
-    let values : get_or (map (λ (g : Format). g.values) formats) p.format [] ≡ f.values = get_or-map (λ (g : Format). g.values) formats p.format d [] h.format in
-    let number : set_at_format formats p.format ≡ f.set = get_or-map (λ (g : Format). g.set) formats p.format d 0 h.format in
-    let given : given_names formats p ≡ value_names f.values = ap₂ (λ vs own. value_names (vs ++ own)) values h.values ∙ ap value_names (append-nil f.values) in
-    let arguments : argument_names sets formats p ≡ member_names (members_at sets f.set) = ap (λ n. member_names (members_at sets n)) number in
-    subst (λ xs. IsPermutation xs (argument_names sets formats p)) (sym given) (subst (IsPermutation (value_names f.values)) (sym arguments) sound.arguments)
+  pattern_values : All (λ p. AreSoundValues width p.values) d.patterns
 
 parts_sound : (options : Options) (texts : List (List ℕ)) → IsOptionName options.decode → length texts ≤ MOST_FILES → AreShort texts → first_fault options texts ≡ None
     → AreSoundParts (width_bits options.width) (definitions_of options texts)
@@ -188,7 +179,7 @@ parts_sound options texts decode few short none =
       formats_named = λ k d below. (sound.formats k d below).named;
       format_names = sound.formats_differ;
       one_set = sound.one_set;
-      values = λ k d below. arguments_given width scope.sets scope.formats (get_or scope.patterns k d) sound.formats (sound.patterns k d below);
+      values = λ k d below. (sound.patterns k d below).arguments;
       format_values = λ k d below. (sound.formats k d below).values;
       pattern_values = λ k d below. (sound.patterns k d below).values;
     }

@@ -1,4 +1,4 @@
--- What the first token of a line says of it (docs/devel/decodetree.rst): it defines a field, a set or a pattern.
+-- What the first token of a line says of it (docs/devel/decodetree.rst): it defines a field, a set, a format or a pattern.
 use Rattle.std.specs.Prelude.{ℕ, ◌==◌, ◌||◌, Bool, List, [], ◌∷◌, codes, if◌then◌else◌}
 use Rattle.dt_values.specs.Names.{is_name}
 use Rattle.dt_values.specs.Types.{is_text}
@@ -10,13 +10,13 @@ abbrev pub is_group_mark : List ℕ → Bool
 is_group_mark text =
     is_text text (codes "{") || (is_text text (codes "}") || (is_text text (codes "[") || is_text text (codes "]")))
 
--- a name behind `%` or `&` is a field's or a set's; `@` begins the line of a format, whatever follows it
+-- a name behind `%`, `&` or `@` is a field's, a set's or a format's
 abbrev pub marked_head : ℕ → List ℕ → Head
 marked_head mark name =
-    if mark == 64 then head.Format
-    else if is_name name then
+    if is_name name then
     if mark == 37 then head.Field name
     else if mark == 38 then head.Set name
+    else if mark == 64 then head.Format name
     else head.None
     else head.None
 

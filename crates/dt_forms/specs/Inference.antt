@@ -1,6 +1,7 @@
--- The set and the format of a pattern that names none (docs/devel/decodetree.rst, "Patterns"). The exact rules and the
--- names of new ones are this project's.
-use Rattle.std.specs.Prelude.{ℕ, ◌≡◌, ◌==◌, ◌&&◌, Bool, true, false, not, List, [], ◌∷◌, ◌++◌, length, map, Option, Some, None, unwrap_or, codes}
+-- The set and the format of a line, and those of a line that names none (docs/devel/decodetree.rst, "Formats" and
+-- "Patterns"). The exact rules and the names of new ones are this project's.
+use Rattle.std.specs.Prelude.{ℕ, ◌≡◌, ◌==◌, ◌&&◌, ◌||◌, Bool, true, false, not, List, [], ◌∷◌, ◌++◌, length, filter, map, get_or}
+use Rattle.std.specs.Prelude.{slice_get, Option, Some, None, unwrap_or, codes}
 use Rattle.std.specs.Cmp.Lexicographic.{pointwise}
 use Rattle.std.specs.Fmt.{decimal}
 use Rattle.std.specs.List.{list_all, list_any, position_or_len}
@@ -16,14 +17,15 @@ use Rattle.dt_fields.specs.declared.field.FieldDef.{FieldDef}
 use Rattle.dt_fields.specs.declared.segment.Segment.{Segment}
 use Rattle.dt_fields.specs.declared.segment.Segment.TheVariants.{Bits, Named}
 use Rattle.dt_fields.specs.declared.set.SetDef.{SetDef}
-use Rattle.dt_forms.specs.ElementRows.{has_value}
-use Rattle.dt_forms.specs.Patterns.{GivenValues}
-use Rattle.dt_forms.specs.declared.form.Format.{Format}
-use Rattle.dt_forms.specs.declared.gather.Gathered.{Gathered}
+use Rattle.dt_scope.specs.ElementRows.{has_value}
+use Rattle.dt_scope.specs.FormatsByName.{format_at, place_of_format}
+use Rattle.dt_scope.specs.Patterns.{GivenValues}
+use Rattle.dt_scope.specs.declared.form.Format.{Format}
+use Rattle.dt_scope.specs.declared.gather.Gathered.{Gathered}
 use Rattle.dt_forms.specs.declared.infer.Choice.{Choice}
-use Rattle.dt_forms.specs.declared.options.Options.{Options}
-use Rattle.dt_forms.specs.declared.value.FieldValue.{FieldValue}
-use Rattle.dt_forms.specs.declared.value.FieldValue.TheVariants.{Field, Constant}
+use Rattle.dt_scope.specs.declared.options.Options.{Options}
+use Rattle.dt_scope.specs.declared.value.FieldValue.{FieldValue}
+use Rattle.dt_scope.specs.declared.value.FieldValue.TheVariants.{Field, Constant}
 
 abbrev pub is_int : CType → Bool
 is_int c.Int = true
@@ -88,12 +90,23 @@ same_value (Constant z) other = false
 abbrev pub gives : GivenValues → List ℕ × FieldValue → Bool
 gives values v = list_any (λ w. is_text v.0 w.0 && same_value v.1 w.1) values
 
--- a format has just these fields, the same by argument and content
-abbrev pub has_fields_of : GivenValues → Format → Bool
-has_fields_of values f = list_all (gives f.values) values && list_all (gives values) f.values
+abbrev pub is_constant : FieldValue → Bool
+is_constant (Field f) = false
+is_constant (Constant z) = true
 
--- A format of this set, for words of so many bits, that gives just these fields, and no constant. It has the field mask
--- of the line too, since the same fields take the same bits of the word.
+-- what a line gives without its constants, and these alone
+abbrev pub fields_of : GivenValues → GivenValues
+fields_of values = filter (λ v. not (is_constant v.1)) values
+
+abbrev pub constants_of : GivenValues → GivenValues
+constants_of values = filter (λ v. is_constant v.1) values
+
+-- a format gives just the fields that are among these values, the same by argument and content, and no constant
+abbrev pub has_fields_of : GivenValues → Format → Bool
+has_fields_of values f = list_all (λ v. is_constant v.1 || gives f.values v) values && list_all (gives values) f.values
+
+-- A format of this set, for words of so many bits, that gives just the fields of a line. It has the field mask of the
+-- line too, since the same fields take the same bits of the word.
 abbrev pub fits_pattern : ℕ → ℕ → GivenValues → Format → Bool
 fits_pattern width set values f = (f.set == set) && ((f.bits == width) && has_fields_of values f)
 
@@ -111,7 +124,8 @@ int_member v = record { ctype = c.Int; name = v.0 }
 abbrev pub new_set : List ℕ → GivenValues → SetDef
 new_set name values = record { name = name; members = map int_member values; outside = false }
 
--- a new format has the decoder's name, `_Fmt_` and the number of formats before it, and the fields of the line
+-- a new format has the decoder's name, `_Fmt_` and the number of formats before it, and these fields of the line; it
+-- fixes and ignores no bit
 abbrev pub new_format_name : List ℕ → ℕ → List ℕ
 new_format_name decode count = decode ++ (codes "_Fmt_" ++ decimal count)
 
@@ -139,10 +153,55 @@ choice_with decode sets formats set format = record {
   new_format = name_where (format == formats) (new_format_name decode formats);
 }
 
-abbrev pub choice_of : Options → List SetDef → List Format → Gathered → Choice
-choice_of options sets formats g =
+-- those of a pattern that names no format
+abbrev pub inferred_choice : Options → List SetDef → List Format → Gathered → Choice
+inferred_choice options sets formats g =
     choice_with options.decode (length sets) (length formats) (set_chosen sets g.values g.set)
     (matching_format (width_bits options.width) (set_chosen sets g.values g.set) g.values formats)
+
+-- the place of the format that a line names
+abbrev pub named_place : List Format → Option (List ℕ) → Option ℕ
+named_place formats None = None
+named_place formats (Some name) = place_of_format formats name
+
+-- the format at a place
+abbrev pub format_in : List Format → Option ℕ → Option Format
+format_in formats None = None
+format_in formats (Some place) = slice_get formats place
+
+-- the format that a line names
+abbrev pub named_format : List Format → Option (List ℕ) → Option Format
+named_format formats name = format_in formats (named_place formats name)
+
+-- a pattern has the set of the format that it names
+abbrev pub set_of_format : List Format → ℕ → ℕ
+set_of_format formats place = get_or (map (λ f. f.set) formats) place 0
+
+abbrev pub named_choice : List Format → ℕ → Choice
+named_choice formats place = record {
+  set = set_of_format formats place;
+  format = place;
+  new_set = None;
+  new_format = None;
+}
+
+abbrev pub choice_by : Options → List SetDef → List Format → Gathered → Option ℕ → Choice
+choice_by options sets formats g None = inferred_choice options sets formats g
+choice_by options sets formats g (Some place) = named_choice formats place
+
+-- those of a pattern
+abbrev pub choice_of : Options → List SetDef → List Format → Gathered → Choice
+choice_of options sets formats g = choice_by options sets formats g (named_place formats g.format)
+
+-- those of a format's line; the format itself is the next
+abbrev pub format_choice : Options → List SetDef → List Format → Gathered → Choice
+format_choice options sets formats g =
+    let set = set_chosen sets g.values g.set in record {
+      set = set;
+      format = length formats;
+      new_set = name_where (set == length sets) (new_set_name options.decode (length sets));
+      new_format = None;
+    }
 
 -- what new ones add
 abbrev pub sets_with : List SetDef → GivenValues → Option (List ℕ) → List SetDef
@@ -156,3 +215,7 @@ formats_with width formats set values (Some name) = formats ++ new_format width 
 -- no set has the name of the new one, if there is one
 abbrev pub IsNewSetFree : List SetDef → Choice → Type 0
 IsNewSetFree sets choice = (name : List ℕ) → choice.new_set ≡ Some name → set_at sets name ≡ None
+
+-- no format has the name of the new one, if there is one
+abbrev pub IsNewFormatFree : List Format → Choice → Type 0
+IsNewFormatFree formats choice = (name : List ℕ) → choice.new_format ≡ Some name → format_at formats name ≡ None

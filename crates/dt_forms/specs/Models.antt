@@ -1,14 +1,14 @@
 -- The model that pattern files stand for.
 use Rattle.std.specs.Prelude.{◌≡◌, ℕ, List, map}
 use Rattle.dt_fields.specs.declared.set.SetDef.{SetDef}
-use Rattle.dt_forms.specs.declared.options.Options.{Options}
-use Rattle.dt_forms.specs.declared.form.Format.{Format}
-use Rattle.dt_forms.specs.declared.form.Pattern.{Pattern}
+use Rattle.dt_scope.specs.declared.options.Options.{Options}
+use Rattle.dt_scope.specs.declared.form.Format.{Format}
+use Rattle.dt_scope.specs.declared.form.Pattern.{Pattern}
 use Rattle.dt_forms.specs.declared.model.Model.{Model}
 use Rattle.dt_forms.specs.FileLines.{all_lines}
-use Rattle.dt_forms.specs.Patterns.{FlatPattern, TrialPattern}
+use Rattle.dt_scope.specs.Patterns.{FlatPattern, TrialPattern}
 use Rattle.dt_forms.specs.Rules.{scope_before}
-use Rattle.dt_forms.specs.Scope.{Scope}
+use Rattle.dt_scope.specs.Scope.{Scope}
 use Rattle.dt_forms.specs.Trees.{items_of, entries_of}
 use Rattle.dt_forms.specs.View.{pattern_seen, trial_pattern}
 

@@ -2,7 +2,6 @@
 -- project's, and so are N2 and L9.
 use Rattle.std.specs.Prelude.{ℕ, ◌==◌, ◌&&◌, nat_le, Bool, true, false, not}
 use Rattle.std.specs.Prelude.{List, [], ◌∷◌, ◌++◌, length, map, Option, Some, None}
-use Rattle.std.specs.List.{list_any}
 use Rattle.dt_values.specs.Widths.{width_bits}
 use Rattle.dt_lines.specs.Lines.{Line}
 use Rattle.dt_lines.specs.declared.line.Position.{Position}
@@ -12,57 +11,44 @@ use Rattle.dt_fields.specs.FieldLines.{field_line_faults, line_field}
 use Rattle.dt_fields.specs.SetLines.{set_line_faults, line_set}
 use Rattle.dt_forms.specs.declared.head.Head.{Head}
 use Rattle.dt_forms.specs.declared.head.Head.TheVariants as head
-use Rattle.dt_forms.specs.declared.options.Options.{Options}
+use Rattle.dt_scope.specs.declared.options.Options.{Options}
 use Rattle.dt_forms.specs.declared.reader.TheConstants.{MOST_PATTERNS}
-use Rattle.dt_forms.specs.Elements.{Element, set_named, format, constant, field_named, bits, in_place, other, element_of}
 use Rattle.dt_forms.specs.FileLines.{FileLine, all_lines, line_position}
 use Rattle.dt_forms.specs.Heads.{head_of}
+use Rattle.dt_forms.specs.FormatLines.{after_format, format_faults}
 use Rattle.dt_forms.specs.PatternLines.{after_pattern, pattern_faults}
-use Rattle.dt_forms.specs.Scope.{Scope, nothing_defined, pattern_names}
+use Rattle.dt_scope.specs.Scope.{Scope, nothing_defined, pattern_names}
 
-abbrev pub is_later_element : Element → Bool
-is_later_element (set_named name) = false
-is_later_element format = true
-is_later_element constant = true
-is_later_element (field_named name field) = false
-is_later_element (bits bs) = false
-is_later_element (in_place name len signed) = false
-is_later_element other = false
-
-abbrev pub is_later_form : List ℕ → Bool
-is_later_form text = is_later_element (element_of text)
-
--- N2: a group's mark or `@` begins the line, or `@` begins a later token of a pattern line, or such a token gives an
--- argument a constant
-abbrev pub is_not_built : List (List ℕ) → Head → Bool
-is_not_built rest head.Group = true
-is_not_built rest head.Format = true
-is_not_built rest (head.Field name) = false
-is_not_built rest (head.Set name) = false
-is_not_built rest (head.Pattern name) = list_any is_later_form rest
-is_not_built rest head.None = false
+-- N2: a group's mark begins the line
+abbrev pub is_not_built : Head → Bool
+is_not_built head.Group = true
+is_not_built (head.Field name) = false
+is_not_built (head.Set name) = false
+is_not_built (head.Format name) = false
+is_not_built (head.Pattern name) = false
+is_not_built head.None = false
 
 abbrev pub is_no_head : Head → Bool
 is_no_head head.Group = false
-is_no_head head.Format = false
 is_no_head (head.Field name) = false
 is_no_head (head.Set name) = false
+is_no_head (head.Format name) = false
 is_no_head (head.Pattern name) = false
 is_no_head head.None = true
 
 -- L9: as many patterns as there may be came before
 abbrev pub is_one_too_many : Scope → Head → Bool
 is_one_too_many scope head.Group = false
-is_one_too_many scope head.Format = false
 is_one_too_many scope (head.Field name) = false
 is_one_too_many scope (head.Set name) = false
+is_one_too_many scope (head.Format name) = false
 is_one_too_many scope (head.Pattern name) = nat_le MOST_PATTERNS (length scope.patterns)
 is_one_too_many scope head.None = false
 
 -- the rules of structure; no group can be open
-abbrev pub structure_rows : Scope → ℕ → List ℕ → List (List ℕ) → Head → List Broken
-structure_rows scope indent first rest h =
-    where_broken (is_not_built rest h) (rule.N2, nothing)
+abbrev pub structure_rows : Scope → ℕ → List ℕ → Head → List Broken
+structure_rows scope indent first h =
+    where_broken (is_not_built h) (rule.N2, nothing)
     ++ (where_broken (not (indent == 0)) (rule.L1, number indent)
     ++ (where_broken (is_no_head h) (rule.L7, token first)
     ++ where_broken (is_one_too_many scope h) (rule.L9, token first)))
@@ -70,17 +56,17 @@ structure_rows scope indent first rest h =
 -- the rules of what a line defines
 abbrev pub definition_faults : Options → Scope → List ℕ → List (List ℕ) → Head → List Broken
 definition_faults options scope first rest head.Group = []
-definition_faults options scope first rest head.Format = []
 definition_faults options scope first rest (head.Field name) =
     field_line_faults (width_bits options.width) scope.fields (first ∷ rest)
 definition_faults options scope first rest (head.Set name) =
     set_line_faults scope.sets (pattern_names scope.patterns) (first ∷ rest)
+definition_faults options scope first rest (head.Format name) = format_faults options scope name rest
 definition_faults options scope first rest (head.Pattern name) = pattern_faults options scope name rest
 definition_faults options scope first rest head.None = []
 
 abbrev pub head_faults : Options → Scope → ℕ → List ℕ → List (List ℕ) → Head → List Broken
 head_faults options scope indent first rest h =
-    structure_rows scope indent first rest h ++ definition_faults options scope first rest h
+    structure_rows scope indent first h ++ definition_faults options scope first rest h
 
 -- the rules that a line with these tokens breaks, in order; a line without tokens has L1 alone
 abbrev pub faults_in : Options → Scope → ℕ → List (List ℕ) → List Broken
@@ -94,11 +80,11 @@ faults_of_line options scope l = faults_in options scope l.indent l.tokens
 -- what a line adds
 abbrev pub after_head : Options → Scope → Position → List ℕ → List (List ℕ) → Head → Scope
 after_head options scope position first rest head.Group = scope
-after_head options scope position first rest head.Format = scope
 after_head options scope position first rest (head.Field name) =
     record scope { fields = scope.fields ++ line_field (first ∷ rest) ∷ [] }
 after_head options scope position first rest (head.Set name) =
     record scope { sets = scope.sets ++ line_set (first ∷ rest) ∷ [] }
+after_head options scope position first rest (head.Format name) = after_format options scope name rest
 after_head options scope position first rest (head.Pattern name) = after_pattern options scope position name rest
 after_head options scope position first rest head.None = scope
 

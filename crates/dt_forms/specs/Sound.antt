@@ -8,16 +8,16 @@ use Rattle.dt_fields.specs.declared.field.FieldDef.{FieldDef}
 use Rattle.dt_fields.specs.declared.segment.Segment.{Segment}
 use Rattle.dt_fields.specs.declared.segment.Segment.TheVariants as segment
 use Rattle.dt_fields.specs.declared.set.SetDef.{SetDef}
-use Rattle.dt_forms.specs.declared.form.Format.{Format}
-use Rattle.dt_forms.specs.declared.form.Pattern.{Pattern}
+use Rattle.dt_scope.specs.declared.form.Format.{Format}
+use Rattle.dt_scope.specs.declared.form.Pattern.{Pattern}
 use Rattle.dt_forms.specs.declared.model.Model.{Model}
 use Rattle.dt_forms.specs.declared.reader.TheConstants.{MOST_PATTERNS}
-use Rattle.dt_forms.specs.declared.value.FieldValue.{FieldValue}
-use Rattle.dt_forms.specs.declared.value.FieldValue.TheVariants.{Field, Constant}
+use Rattle.dt_scope.specs.declared.value.FieldValue.{FieldValue}
+use Rattle.dt_scope.specs.declared.value.FieldValue.TheVariants.{Field, Constant}
 use Rattle.dt_fields.specs.SoundFields.{IsSoundField}
 use Rattle.dt_fields.specs.SoundSets.{IsSoundSet}
-use Rattle.dt_forms.specs.PatternLines.{set_number}
-use Rattle.dt_forms.specs.Patterns.{FlatPattern, GivenValues, position_of}
+use Rattle.dt_forms.specs.LineNames.{set_number}
+use Rattle.dt_scope.specs.Patterns.{FlatPattern, GivenValues, position_of}
 use Rattle.dt_forms.specs.Trees.{Item, one, overlap, exclusive, Cluster, cluster, Items, no_item, item}
 use Rattle.dt_forms.specs.Trees.{items_of, numbers_of, numbers_from}
 use Rattle.dt_forms.specs.View.{given_values, members_of_pattern, pattern_seen}
@@ -126,7 +126,7 @@ pub record IsSoundPattern (width : ℕ) (p : FlatPattern) : Type 0 where
   pub file_below : p.file < 2 ^ 16
   pub line_below : p.line < 2 ^ 32
 
--- No pattern gives a value in its own line yet, and no field refers to an argument.
+-- No field refers to an argument.
 pub record IsSound (model : Model) : Type 0 where
   pub masks : All (HasMasks (width_bits model.width)) model.patterns
   pub format_masks : All (FormatHasMasks (width_bits model.width)) model.formats
@@ -146,5 +146,5 @@ pub record IsSound (model : Model) : Type 0 where
   pub one_set : AllPairs (HaveOneSet model.formats) model.patterns
   pub values : All (GivesArguments model.sets model.formats) model.patterns
   pub format_values : All (λ f. AreSoundValues (width_bits model.width) f.values) model.formats
-  pub pattern_values : All (λ p. p.values ≡ []) model.patterns
+  pub pattern_values : All (λ p. AreSoundValues (width_bits model.width) p.values) model.patterns
   pub entry_positions : AllPairs IsEarlier (positions_of model.patterns (items_of model.entries))

@@ -2,7 +2,7 @@
 use Rattle.std.specs.Prelude.{ℕ, suc, zero, ◌+◌, List, [], ◌∷◌, ◌++◌, length, map}
 use Rattle.dt_forms.specs.declared.entry.Entry.{Entry, fold-Entry}
 use Rattle.dt_forms.specs.declared.entry.Entry.TheOpen.{Entry-F, Group-F}
-use Rattle.dt_forms.specs.Patterns.{FlatPattern}
+use Rattle.dt_scope.specs.Patterns.{FlatPattern}
 
 -- a pattern by its number in the flat list, a group in braces or brackets; a group has its file, its line and its
 -- entries

@@ -5,11 +5,11 @@ use Rattle.dt_fields.specs.View.{IsDetailWithin, detail_seen}
 use Rattle.dt_fields.specs.declared.fault.DefFault.{DefFault}
 use Rattle.dt_fields.specs.declared.fault.DefFault.TheVariants as def_faults
 use Rattle.dt_fields.specs.declared.set.SetDef.{SetDef}
-use Rattle.dt_forms.specs.PatternLines.{set_number}
-use Rattle.dt_forms.specs.Patterns.{FlatPattern, GivenValues, TrialPattern}
+use Rattle.dt_forms.specs.LineNames.{set_number}
+use Rattle.dt_scope.specs.Patterns.{FlatPattern, GivenValues, TrialPattern}
 use Rattle.dt_forms.specs.Rules.{Fault}
-use Rattle.dt_forms.specs.declared.form.Format.{Format}
-use Rattle.dt_forms.specs.declared.form.Pattern.{Pattern}
+use Rattle.dt_scope.specs.declared.form.Format.{Format}
+use Rattle.dt_scope.specs.declared.form.Pattern.{Pattern}
 use Rattle.dt_forms.specs.declared.source.Source.{Source}
 use Rattle.dt_forms.specs.declared.fault.ModelFault.{ModelFault}
 use Rattle.dt_forms.specs.declared.fault.ModelFault.TheVariants as faults

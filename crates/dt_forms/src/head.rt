@@ -5,17 +5,17 @@ ghost use Rattle.dt_forms.specs.Heads.{head_of, is_group_mark, marked_head, name
 
 use dt_values::Name;
 
-/// What a line is by its first token. A line of a group or a format isn't read yet.
+/// What a line is by its first token. A line of a group isn't read yet.
 #[derive(Clone, Copy, Debug, PartialEq, Eq)]
 pub enum Head {
     /// A brace or a bracket alone.
     Group,
-    /// `@` begins the token.
-    Format,
     /// `%` and a name.
     Field(Name),
     /// `&` and a name.
     Set(Name),
+    /// `@` and a name.
+    Format(Name),
     /// A name alone.
     Pattern(Name),
     /// None of these.
@@ -57,15 +57,13 @@ fn named_head(text: &[u8]) -> Head
 fn marked_head(mark: u8, name: &[u8]) -> Head
     ensures { result ≡ marked_head mark name.now }
 {
-    if mark == b'@' {
-        return Head::Format;
-    }
     let Some(name) = Name::from_bytes(name) else {
         return Head::None;
     };
     match mark {
         b'%' => Head::Field(name),
         b'&' => Head::Set(name),
+        b'@' => Head::Format(name),
         _ => Head::None,
     }
 }

@@ -1,32 +1,31 @@
-//! The set and the format of a pattern that names none.
+//! The set and the format that a line takes.
 
-ghost use Rattle.std.specs.Prelude.{◌≡◌, ◌==◌, ◌<◌, ◌≤◌, ◌++◌, true, length, Some, None, IfOk, slice_index_or};
-ghost use Rattle.std.specs.Cmp.Lexicographic.{pointwise};
+ghost use Rattle.std.specs.Prelude.{◌≡◌, ◌==◌, ◌<◌, ◌≤◌, ◌++◌, ◌||◌, true, length, Some, None, IfOk, slice_index_or};
+ghost use Rattle.std.specs.Option.{option_copied};
 ghost use Rattle.std.specs.Fmt.{decimal};
 ghost use Rattle.std.specs.List.{list_all};
 ghost use Rattle.dt_values.specs.Names.{is_name_byte};
 ghost use Rattle.dt_values.specs.Widths.{width_bits};
 ghost use Rattle.dt_fields.specs.SetLines.{has_member};
-ghost use Rattle.dt_fields.specs.declared.segment.Segment.TheVariants.{Bits, Named};
 ghost use Rattle.dt_fields.specs.declared.set.SetDef.{SetDef};
-ghost use Rattle.dt_forms.specs.ElementRows.{has_value};
-ghost use Rattle.dt_forms.specs.Inference.{choice_of, fits_pattern, gives, has_exactly, has_fields_of, has_new_argument, is_int};
-ghost use Rattle.dt_forms.specs.Inference.{matching_format, matching_set, name_where, same_field, same_function};
-ghost use Rattle.dt_forms.specs.Inference.{same_segment, same_sign, same_value, set_chosen};
-ghost use Rattle.dt_forms.specs.Options.{IsOptionName};
-ghost use Rattle.dt_forms.specs.declared.value.FieldValue.TheVariants.{Field};
+ghost use Rattle.dt_scope.specs.ElementRows.{has_value};
+ghost use Rattle.dt_scope.specs.Options.{IsOptionName};
+ghost use Rattle.dt_scope.specs.declared.form.Format.{Format};
+ghost use Rattle.dt_forms.specs.Inference.{choice_by, fits_pattern, format_choice, format_in, gives, has_exactly, has_fields_of};
+ghost use Rattle.dt_forms.specs.Inference.{has_new_argument, inferred_choice, is_constant, is_int, matching_format, matching_set};
+ghost use Rattle.dt_forms.specs.Inference.{name_where, named_choice, named_place, set_chosen, set_of_format};
 
-use crate::form::Format;
-use crate::gather::{Gathered, has_value};
-use crate::options::Options;
-use crate::value::FieldValue;
+use crate::same_field::same_value;
 use dt_fields::set_lines::has_member;
-use dt_fields::{FieldDef, Segment, SetDef, Sets};
+use dt_fields::{SetDef, Sets};
+use dt_scope::gather::{Gathered, has_value};
+use dt_scope::{FieldValue, Format, Formats, Options};
 use dt_values::{CType, Member, Name, Width};
 use itoa::Buffer;
 use std::alloc::{AllocError, Global};
 
-/// What a pattern takes: the number of its set and of its format, and the names of those that are new.
+/// What a line takes: the number of its set and of its format, and the names of those that are inferred anew. The format
+/// of a format's line is itself.
 #[derive(Clone, Copy, Debug, PartialEq, Eq)]
 pub struct Choice {
     pub set: u32,
@@ -35,23 +34,103 @@ pub struct Choice {
     pub new_format: Option<Name>,
 }
 
-/// What a pattern takes of these sets and formats. A number that doesn't fit in 32 bits finds no memory: so many sets
-/// would fill it many times over.
+/// The place of the format that a line names.
+pub(crate) fn named_place(formats: &Formats, name: Option<Name>) -> Option<usize>
+    ensures { result ≡ named_place formats.now name }
+{
+    formats.place(name?)
+}
+
+/// The format at a place.
+pub(crate) fn format_in(formats: &Formats, place: Option<usize>) -> Option<&Format>
+    ensures { option_copied result ≡ format_in formats.now place }
+{
+    formats.at(place?)
+}
+
+/// What a pattern takes of these sets and formats, where it names the format at this place, or none. A number that
+/// doesn't fit in 32 bits finds no memory: so many sets would fill it many times over.
 pub(crate) fn choose(
     alloc: Global,
     options: &Options,
     sets: &Sets,
-    formats: &[Format],
+    formats: &Formats,
+    place: Option<usize>,
     gathered: &Gathered,
 ) -> Result<Choice, AllocError>
     requires { IsOptionName options.now.decode }
-    ensures { IfOk result (λ choice. choice ≡ choice_of options.now sets.now formats.now gathered.now) }
+    ensures { IfOk result
+        (λ choice. choice ≡ choice_by options.now sets.now formats.now gathered.now place) }
+{
+    match place {
+        None => inferred_choice(alloc, options, sets, formats, gathered),
+        Some(place) => named_choice(formats, place),
+    }
+}
+
+// What a pattern takes that names the format at this place.
+fn named_choice(formats: &Formats, place: usize) -> Result<Choice, AllocError>
+    ensures { IfOk result (λ choice. choice ≡ named_choice formats.now place) }
+{
+    choice_with(set_of_format(formats, place) as usize, place, None, None)
+}
+
+/// The number of the set of the format at this place.
+#[tactic(auto, using(crate::proofs::SetNumbers::set_of_none, crate::proofs::SetNumbers::set_of_some))]
+pub(crate) fn set_of_format(formats: &Formats, place: usize) -> u32
+    ensures { result ≡ set_of_format formats.now place }
+{
+    match formats.at(place) {
+        None => 0,
+        Some(format) => format.set,
+    }
+}
+
+// What a pattern takes that names no format.
+fn inferred_choice(
+    alloc: Global,
+    options: &Options,
+    sets: &Sets,
+    formats: &Formats,
+    gathered: &Gathered,
+) -> Result<Choice, AllocError>
+    requires { IsOptionName options.now.decode }
+    ensures { IfOk result (λ choice. choice ≡ inferred_choice options.now sets.now formats.now gathered.now) }
 {
     let values = gathered.values.items();
     let set = set_chosen(sets, values, gathered.set);
     let format = matching_format(options.width, set, values, formats);
     let new_set = new_name(alloc, options.decode, b"", set, sets.count())?;
-    let new_format = new_name(alloc, options.decode, b"_Fmt_", format, formats.len())?;
+    let new_format = new_name(alloc, options.decode, b"_Fmt_", format, formats.count())?;
+    choice_with(set, format, new_set, new_format)
+}
+
+/// What the line of a format takes of these sets; its own number is the next.
+pub(crate) fn format_choice(
+    alloc: Global,
+    options: &Options,
+    sets: &Sets,
+    formats: &Formats,
+    gathered: &Gathered,
+) -> Result<Choice, AllocError>
+    requires { IsOptionName options.now.decode }
+    ensures { IfOk result (λ choice. choice ≡ format_choice options.now sets.now formats.now gathered.now) }
+{
+    let set = set_chosen(sets, gathered.values.items(), gathered.set);
+    let new_set = new_name(alloc, options.decode, b"", set, sets.count())?;
+    choice_with(set, formats.count(), new_set, None)
+}
+
+// The choice of these numbers, which fit in 32 bits.
+fn choice_with(
+    set: usize,
+    format: usize,
+    new_set: Option<Name>,
+    new_format: Option<Name>,
+) -> Result<Choice, AllocError>
+    ensures { IfOk result (λ choice. choice
+        ≡ record { set = set; format = format; new_set = new_set; new_format = new_format }) }
+{
     if set > u32::MAX as usize || format > u32::MAX as usize {
         return Err(AllocError);
     }
@@ -152,16 +231,31 @@ fn matching_format(
     width: Width,
     set: usize,
     values: &[(Name, FieldValue)],
-    formats: &[Format],
+    formats: &Formats,
 ) -> usize
     ensures { result ≡ matching_format (width_bits width) set values.now formats.now }
 {
-    for place in 0..formats.len() {
-        if fits_pattern(width, set, values, &formats[place]) {
+    for place in 0..formats.count() {
+        if is_fitting(width, set, values, formats, place) {
             return place;
         }
     }
-    formats.len()
+    formats.count()
+}
+
+// Whether a pattern of this set and these values takes the format at a place.
+fn is_fitting(
+    width: Width,
+    set: usize,
+    values: &[(Name, FieldValue)],
+    formats: &Formats,
+    place: usize,
+) -> bool
+    requires { place < length formats.now }
+    ensures { (d : Format) → result
+        ≡ fits_pattern (width_bits width) set values.now (slice_index_or formats.now place d) }
+{
+    fits_pattern(width, set, values, formats.at(place).unwrap())
 }
 
 fn fits_pattern(width: Width, set: usize, values: &[(Name, FieldValue)], format: &Format) -> bool
@@ -174,7 +268,26 @@ fn has_fields_of(values: &[(Name, FieldValue)], format: &Format) -> bool
     ensures { result ≡ has_fields_of values.now format.now }
 {
     let others = format.values.items();
-    gives_all(others, values) && gives_all(values, others)
+    gives_fields(others, values) && gives_all(values, others)
+}
+
+// Whether each field of a line is among the others.
+fn gives_fields(others: &[(Name, FieldValue)], values: &[(Name, FieldValue)]) -> bool
+    ensures { result ≡ list_all (λ v. is_constant v.1 || gives others.now v) values.now }
+{
+    values
+        .iter()
+        .all(|value| is_constant(&value.1) || gives(others, value))
+}
+
+/// Whether an argument gets a constant.
+pub(crate) fn is_constant(value: &FieldValue) -> bool
+    ensures { result ≡ is_constant value.now }
+{
+    match value {
+        FieldValue::Field(_) => false,
+        FieldValue::Constant(_) => true,
+    }
 }
 
 // Whether each of these is among the others.
@@ -189,107 +302,6 @@ fn gives(values: &[(Name, FieldValue)], value: &(Name, FieldValue)) -> bool
     ensures { result ≡ gives values.now value.now }
 {
     values.iter().any(|other| value.0 == other.0 && same_value(&value.1, &other.1))
-}
-
-fn same_value(a: &FieldValue, b: &FieldValue) -> bool
-    ensures { result ≡ same_value a.now b.now }
-{
-    match a {
-        FieldValue::Constant(_) => false,
-        FieldValue::Field(field) => is_same_field(field, b),
-    }
-}
-
-fn is_same_field(field: &FieldDef, value: &FieldValue) -> bool
-    ensures { result ≡ same_value (Field field.now) value.now }
-{
-    match value {
-        FieldValue::Constant(_) => false,
-        FieldValue::Field(other) => same_field(field, other),
-    }
-}
-
-fn same_field(a: &FieldDef, b: &FieldDef) -> bool
-    ensures { result ≡ same_field a.now b.now }
-{
-    same_segments(a.segments.items(), b.segments.items()) && same_function(&a.function, &b.function)
-}
-
-fn same_function(a: &Option<Name>, b: &Option<Name>) -> bool
-    ensures { result ≡ same_function a.now b.now }
-{
-    match a {
-        None => b.is_none(),
-        Some(name) => is_function(name, b),
-    }
-}
-
-fn is_function(name: &Name, function: &Option<Name>) -> bool
-    ensures { result ≡ same_function (Some name.now) function.now }
-{
-    match function {
-        None => false,
-        Some(other) => *name == *other,
-    }
-}
-
-fn same_segments(a: &[Segment], b: &[Segment]) -> bool
-    ensures { result ≡ pointwise same_segment a.now b.now }
-{
-    match (a.split_first(), b.split_first()) {
-        (None, None) => true,
-        (Some((a, rest)), Some((b, others))) => same_segment(a, b) && same_segments(rest, others),
-        _ => false,
-    }
-}
-
-fn same_segment(a: &Segment, b: &Segment) -> bool
-    ensures { result ≡ same_segment a.now b.now }
-{
-    match a {
-        Segment::Bits {
-            pos,
-            length,
-            signed,
-        } => same_bits(*pos, *length, *signed, b),
-        Segment::Named {
-            name,
-            length,
-            signed,
-        } => same_named(name, *length, *signed, b),
-    }
-}
-
-fn same_bits(pos: u8, length: u8, signed: bool, other: &Segment) -> bool
-    ensures { result ≡ same_segment (Bits pos length signed) other.now }
-{
-    match other {
-        Segment::Named { .. } => false,
-        Segment::Bits {
-            pos: pos2,
-            length: length2,
-            signed: signed2,
-        } => pos == *pos2 && length == *length2 && same_sign(signed, *signed2),
-    }
-}
-
-fn same_named(name: &Name, length: u8, signed: bool, other: &Segment) -> bool
-    ensures { result ≡ same_segment (Named name.now length signed) other.now }
-{
-    match other {
-        Segment::Bits { .. } => false,
-        Segment::Named {
-            name: name2,
-            length: length2,
-            signed: signed2,
-        } => *name == *name2 && length == *length2 && same_sign(signed, *signed2),
-    }
-}
-
-fn same_sign(a: bool, b: bool) -> bool
-    ensures { result ≡ same_sign a b }
-{
-    if a { b } else { !b }
 }
 
 // The name of a new set or format, where the number is that of a new one.

@@ -3,13 +3,13 @@
 ghost use Rattle.std.specs.Prelude.{◌≡◌, ◌<◌, ◌≤◌, ◌^◌, ℕ, List, None, Some, true, length, get_or, All};
 ghost use Rattle.dt_values.specs.Widths.{width_bits};
 ghost use Rattle.dt_fields.specs.declared.field.FieldDef.{FieldDef};
-ghost use Rattle.dt_forms.specs.declared.options.Options.{Options};
+ghost use Rattle.dt_scope.specs.declared.options.Options.{Options};
 ghost use Rattle.dt_forms.specs.declared.reader.TheConstants.{MOST_FILES};
 ghost use Rattle.dt_forms.specs.FileFaults.{HaveNoFileFault, file_fault, first_broken};
 ghost use Rattle.dt_forms.specs.Inference.{same_field};
 ghost use Rattle.dt_forms.specs.Models.{flat_list};
-ghost use Rattle.dt_forms.specs.Options.{IsOptionName};
-ghost use Rattle.dt_forms.specs.Patterns.{position_of};
+ghost use Rattle.dt_scope.specs.Options.{IsOptionName};
+ghost use Rattle.dt_scope.specs.Patterns.{position_of};
 ghost use Rattle.dt_forms.specs.Positions.{first_token_at};
 ghost use Rattle.dt_forms.specs.Rules.{Fault, first_fault};
 ghost use Rattle.dt_forms.specs.Sound.{IsSoundPattern};

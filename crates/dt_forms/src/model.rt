@@ -1,8 +1,8 @@
 //! The model of pattern files.
 
 use crate::entry::EntryList;
-use crate::form::{FormatList, PatternList};
 use dt_fields::SetDef;
+use dt_scope::form::{FormatList, PatternList};
 use dt_values::{Items, Width};
 
 /// Argument sets in order of definition. Contracts see the list of them.

@@ -4,24 +4,23 @@ ghost use Rattle.std.specs.Prelude.{◌≡◌, ℕ, List, [], length, map, All, 
 ghost use Rattle.dt_lines.specs.Spans.{IsWithin, text_at};
 ghost use Rattle.dt_fields.specs.View.{DefBroken};
 ghost use Rattle.dt_values.specs.Widths.{width_bits};
-ghost use Rattle.dt_forms.specs.ElementRows.{IsSmall};
-ghost use Rattle.dt_forms.specs.Bits.{bits_of};
-ghost use Rattle.dt_forms.specs.Inference.{choice_of};
-ghost use Rattle.dt_forms.specs.Options.{IsOptions};
-ghost use Rattle.dt_forms.specs.PatternLines.{after_pattern, pattern_faults, pattern_with, scope_with, whole_rows};
+ghost use Rattle.dt_scope.specs.ElementRows.{IsSmall};
+ghost use Rattle.dt_scope.specs.Fitting.{ValuesFit};
+ghost use Rattle.dt_scope.specs.Options.{IsOptions};
+ghost use Rattle.dt_forms.specs.Inference.{IsNewFormatFree, IsNewSetFree, choice_of, constants_of, named_format};
+ghost use Rattle.dt_forms.specs.PatternLines.{after_pattern, pattern_faults, pattern_of, pattern_with};
+ghost use Rattle.dt_forms.specs.PatternLines.{scope_with_pattern, whole_rows};
 
-use crate::bits::Bits;
-use crate::form::Pattern;
-use crate::gather::{Gathered, gather};
-use crate::infer::choose;
-use crate::line_rules::check_line;
-use crate::options::Options;
-use crate::scope::Scope;
-use crate::value::ValueList;
+use crate::infer::{Choice, choose, format_in, named_place};
+use crate::inferred::{push_new_format, push_new_set, shares_of};
+use crate::line_bits::bits_with_base;
+use crate::pattern_rules::check_pattern;
 use dt_fields::DefFault;
 use dt_lines::{Position, Span};
-use dt_values::Name;
-use std::alloc::Global;
+use dt_scope::gather::{Gathered, gather};
+use dt_scope::{Bits, Options, Pattern, Scope, ValueList};
+use dt_values::{Name, Width};
+use std::alloc::{AllocError, Global};
 
 /// Adds the pattern of this name and these further tokens of a line, with the set and the format that it brings.
 #[tactic(auto, using(dt_fields::proofs::FirstFaults::broken_prefix))]
@@ -42,9 +41,13 @@ pub fn add_pattern_line(
     ensures broken { IfErr result (λ fault. DefBroken source.now fault
         (pattern_faults options.now scope.old name (map (text_at source.now) tokens.now))) }
 {
-    let gathered = gather(alloc, options.width, scope, source, tokens)?;
-    add_gathered(alloc, options, scope, position, name, gathered)?;
-    Ok(())
+    match gather(alloc, false, options.width, scope, source, tokens) {
+        Err(fault) => Err(fault),
+        Ok(gathered) => match add_gathered(alloc, options, scope, position, name, gathered) {
+            Err(fault) => Err(fault),
+            Ok(()) => Ok(()),
+        },
+    }
 }
 
 // Adds the pattern of this name, whose line gives this.
@@ -59,30 +62,91 @@ fn add_gathered(
     requires options { IsOptions options.now }
     requires small { IsSmall (width_bits options.now.width) gathered }
     ensures after { let choice = choice_of options.now scope.old.sets scope.old.formats gathered in
-        OnOk result (scope.new ≡ scope_with (width_bits options.now.width) scope.old choice gathered.values
-        (pattern_with position name choice.format (bits_of gathered.digits))) }
+        OnOk result (scope.new ≡ scope_with_pattern (width_bits options.now.width) scope.old choice gathered.values
+        (pattern_of (width_bits options.now.width) choice (named_format scope.old.formats gathered.format) position
+        name gathered)) }
     ensures kept { OnOk result (whole_rows (width_bits options.now.width) scope.old
-        (choice_of options.now scope.old.sets scope.old.formats gathered) name gathered ≡ []) }
+        (choice_of options.now scope.old.sets scope.old.formats gathered)
+        (named_format scope.old.formats gathered.format) name gathered ≡ []) }
     ensures broken { (source : List ℕ) → IfErr result (λ fault. DefBroken source fault
         (whole_rows (width_bits options.now.width) scope.old
-        (choice_of options.now scope.old.sets scope.old.formats gathered) name gathered)) }
+        (choice_of options.now scope.old.sets scope.old.formats gathered)
+        (named_format scope.old.formats gathered.format) name gathered)) }
 {
-    let choice = match choose(alloc, options, scope.sets(), scope.formats(), &gathered) {
+    let place = named_place(scope.formats(), gathered.format);
+    let choice = match choose(
+        alloc,
+        options,
+        scope.sets(),
+        scope.formats(),
+        place,
+        &gathered,
+    ) {
         Ok(choice) => choice,
         Err(_) => return Err(DefFault::NoMemory),
     };
-    check_line(options.width, scope, &choice, name, &gathered)?;
-    let bits = Bits::of(gathered.digits.items());
-    let pattern = pattern_with(alloc, position, name, choice.format, bits);
-    match scope.add_pattern(alloc, options.width, &choice, gathered.values, pattern) {
+    let base = format_in(scope.formats(), place);
+    match check_pattern(options.width, scope, &choice, base, name, &gathered) {
+        Err(fault) => return Err(fault),
+        Ok(()) => {}
+    }
+    let line = Bits::of_word(options.width, gathered.digits.items());
+    let bits = bits_with_base(line, base);
+    let is_named = base.is_some();
+    let added = if is_named {
+        let pattern = pattern_with(position, name, choice.format, bits, gathered.values);
+        scope.push_pattern(pattern)
+    } else {
+        push_inferred(
+            alloc,
+            options.width,
+            scope,
+            &choice,
+            position,
+            name,
+            bits,
+            gathered.values,
+        )
+    };
+    match added {
         Ok(()) => Ok(()),
         Err(_) => Err(DefFault::NoMemory),
     }
 }
 
-// The pattern of this name, at a position, with these bits.
-fn pattern_with(alloc: Global, position: Position, name: Name, format: u32, bits: Bits) -> Pattern
-    ensures { result ≡ pattern_with position name format bits }
+// Adds a pattern that names no format, with the set and the format that it brings.
+#[tactic(auto, using(crate::proofs::Shares::fields_fit))]
+fn push_inferred(
+    alloc: Global,
+    width: Width,
+    scope: &mut Scope,
+    choice: &Choice,
+    position: Position,
+    name: Name,
+    bits: Bits,
+    values: ValueList,
+) -> Result<(), AllocError>
+    requires free { IsNewSetFree scope.old.sets choice.now }
+    requires free_format { IsNewFormatFree scope.old.formats choice.now }
+    requires fits { ValuesFit values }
+    ensures { OnOk result (scope.new ≡ scope_with_pattern (width_bits width) scope.old choice.now values
+        (pattern_with position name choice.now.format bits (constants_of values))) }
+{
+    push_new_set(alloc, scope, choice, values.items())?;
+    let shares = shares_of(alloc, values)?;
+    push_new_format(scope, width, choice, shares.fields)?;
+    scope.push_pattern(pattern_with(position, name, choice.format, bits, shares.constants))
+}
+
+// The pattern of this name, at a position, with these bits and these values of its own.
+fn pattern_with(
+    position: Position,
+    name: Name,
+    format: u32,
+    bits: Bits,
+    values: ValueList,
+) -> Pattern
+    ensures { result ≡ pattern_with position name format bits values }
 {
     Pattern {
         name,
@@ -93,6 +157,6 @@ fn pattern_with(alloc: Global, position: Position, name: Name, format: u32, bits
         fixed_bits: bits.fixed_bits,
         fixed_mask: bits.fixed_mask,
         ignored: bits.ignored,
-        values: ValueList::of(Vec::new(alloc)),
+        values,
     }
 }

@@ -10,26 +10,24 @@ ghost use Rattle.dt_fields.specs.View.{DefBroken};
 ghost use Rattle.dt_forms.specs.FileLines.{all_lines, in_file};
 ghost use Rattle.dt_forms.specs.Heads.{head_of};
 ghost use Rattle.dt_forms.specs.Models.{IsModelOf, IsModelOfScope};
-ghost use Rattle.dt_forms.specs.Options.{IsOptions};
+ghost use Rattle.dt_scope.specs.Options.{IsOptions};
 ghost use Rattle.dt_forms.specs.Rules.{after_head, after_line, after_lines, definition_faults, faults_from, faults_of_line};
-ghost use Rattle.dt_forms.specs.Rules.{first_fault, head_faults, is_later_form, is_not_built, is_one_too_many, scope_before};
+ghost use Rattle.dt_forms.specs.Rules.{first_fault, head_faults, is_not_built, is_one_too_many, scope_before};
 ghost use Rattle.dt_forms.specs.Rules.{structure_rows};
 ghost use Rattle.dt_forms.specs.Sound.{IsSound};
 ghost use Rattle.dt_forms.specs.Sources.{AreSources, IsSourceAt};
 ghost use Rattle.dt_forms.specs.View.{FileBroken, ModelBroken, fault_at, texts_of};
 
-use crate::element::is_later_form;
 use crate::entry::{EntryList, entries_of};
 use crate::fault::{Fault, ModelFault};
-use crate::form::{FormatList, PatternList};
+use crate::format_line::add_format_line;
 use crate::head::{Head, head_of};
 use crate::model::{Model, SetList};
-use crate::options::Options;
 use crate::pattern_line::add_pattern_line;
-use crate::scope::Scope;
 use crate::source::Source;
 use dt_fields::{DefFault, Detail, Rule, refuse};
 use dt_lines::{Logical, Position, Span};
+use dt_scope::{FormatList, Options, PatternList, Scope};
 use std::alloc::{AllocError, Global};
 
 /// The most patterns that all files may have.
@@ -233,7 +231,7 @@ fn read_tokens(
         (head_of (text_at source.now first)))) }
 {
     let head = head_of(first.text(source));
-    match check_structure(source, scope, line.indent, first, rest, head) {
+    match check_structure(scope, line.indent, source, first, head) {
         Ok(()) => add_definition(alloc, options, file, source, line, first, rest, scope),
         Err(fault) => Err(fault),
     }
@@ -241,50 +239,32 @@ fn read_tokens(
 
 // Refuses a line that breaks a rule of structure.
 fn check_structure(
-    source: &[u8],
     scope: &Scope,
     indent: u32,
+    source: &[u8],
     first: Span,
-    rest: &[Span],
     head: Head,
 ) -> Result<(), DefFault>
-    requires first { IsWithin (length source.now) first }
-    requires rest { All (IsWithin (length source.now)) rest.now }
-    ensures kept { OnOk result (structure_rows scope.now indent (text_at source.now first)
-        (map (text_at source.now) rest.now) head ≡ []) }
-    ensures broken { IfErr result (λ fault. DefBroken source.now fault (structure_rows scope.now indent
-        (text_at source.now first) (map (text_at source.now) rest.now) head)) }
+    requires { IsWithin (length source.now) first }
+    ensures kept { OnOk result (structure_rows scope.now indent (text_at source.now first) head ≡ []) }
+    ensures broken { IfErr result (λ fault. DefBroken source.now fault
+        (structure_rows scope.now indent (text_at source.now first) head)) }
 {
-    refuse(is_not_built(source, rest, head), Rule::N2, Detail::None)?;
+    refuse(is_not_built(head), Rule::N2, Detail::None)?;
     refuse(indent != 0, Rule::L1, Detail::Number(indent as u64))?;
     refuse(head == Head::None, Rule::L7, Detail::Text(first))?;
     refuse(is_one_too_many(scope, head), Rule::L9, Detail::Text(first))?;
     Ok(())
 }
 
-// Whether a line with this head and these further tokens isn't built.
-fn is_not_built(source: &[u8], rest: &[Span], head: Head) -> bool
-    requires { All (IsWithin (length source.now)) rest.now }
-    ensures { result ≡ is_not_built (map (text_at source.now) rest.now) head }
+// Whether a line with this head isn't built.
+fn is_not_built(head: Head) -> bool
+    ensures { result ≡ is_not_built head }
 {
     match head {
-        Head::Group | Head::Format => true,
-        Head::Field(_) | Head::Set(_) | Head::None => false,
-        Head::Pattern(_) => has_later_form(source, rest),
+        Head::Group => true,
+        Head::Field(_) | Head::Set(_) | Head::Format(_) | Head::Pattern(_) | Head::None => false,
     }
-}
-
-// Whether a token is of a form that isn't read yet.
-fn has_later_form(source: &[u8], tokens: &[Span]) -> bool
-    requires { All (IsWithin (length source.now)) tokens.now }
-    ensures { result ≡ list_any is_later_form (map (text_at source.now) tokens.now) }
-{
-    for token in tokens {
-        if is_later_form(token.text(source)) {
-            return true;
-        }
-    }
-    false
 }
 
 // Whether a pattern would be one more than there may be.
@@ -325,6 +305,7 @@ fn add_definition(
     match head_of(first.text(source)) {
         Head::Field(_) => scope.add_field(alloc, options.width, source, line),
         Head::Set(_) => scope.add_set(alloc, source, line),
+        Head::Format(name) => add_format_line(alloc, options, scope, source, name, rest),
         Head::Pattern(name) => {
             let position = Position {
                 file,
@@ -332,6 +313,6 @@ fn add_definition(
             };
             add_pattern_line(alloc, options, scope, source, position, name, rest)
         }
-        Head::Group | Head::Format | Head::None => Ok(()),
+        Head::Group | Head::None => Ok(()),
     }
 }

@@ -1,9 +1,10 @@
 //! Reads small files: the rules of faulty lines, and the models of sound ones.
 
 mod arguments;
+mod formats;
 
 ghost use Rattle.std.specs.Prelude.{◌≡◌, ◌+◌, ◌≤◌, length, vec_len, IfOk, OnOk};
-ghost use Rattle.dt_forms.specs.Options.{IsOptions};
+ghost use Rattle.dt_scope.specs.Options.{IsOptions};
 ghost use Rattle.dt_forms.specs.Sources.{AreSources, IsSourceAt};
 
 use crate::{
@@ -116,6 +117,35 @@ fn is_fault(
     )
 }
 
+// The detail of this name.
+fn named(name: &[u8]) -> Result<Detail, Fail> {
+    Ok(Detail::Named(Name::from_bytes(name).ok_or("a name")?))
+}
+
+// How many sets and formats there are, and the numbers of the last pattern's format and set.
+fn choice_of(
+    rt: &HostRuntime,
+    width: Width,
+    file: &[u8],
+) -> Result<(usize, usize, u32, u32), Fail> {
+    if file.len() > 200 {
+        return Err("too long".into());
+    }
+    let model = model_of(read(rt.alloc(), width, file)?)?;
+    let pattern = model.patterns.items().last().ok_or("a pattern")?;
+    let format = model
+        .formats
+        .items()
+        .get(pattern.format as usize)
+        .ok_or("a format")?;
+    Ok((
+        model.sets.items().len(),
+        model.formats.items().len(),
+        pattern.format,
+        format.set,
+    ))
+}
+
 #[test]
 fn words_of_32_bits(rt: HostRuntime) -> Result<(), Fail> {
     let table: [(&[u8], (u32, Rule, Detail)); 10] = [
@@ -150,21 +180,7 @@ fn words_of_32_bits(rt: HostRuntime) -> Result<(), Fail> {
 
 #[test]
 fn lines_that_are_not_built(rt: HostRuntime) -> Result<(), Fail> {
-    let table: [&[u8]; 13] = [
-        b"}",
-        b"{",
-        b"[ 0x",
-        b" ]",
-        b"@f ----------------",
-        b"@",
-        b" p @f",
-        b"p * @",
-        b"p @a-b",
-        b"p a=12 *",
-        b"p 9a=-1",
-        b"p if=+0",
-        b"p ---------------- a=0",
-    ];
+    let table: [&[u8]; 5] = [b"}", b"{", b"[ 0x", b" ]", b"\t{ @"];
     for bytes in table {
         assert!(rt; is_fault(rt.alloc(), Width::W16, bytes, (1, Rule::N2, Detail::None))?);
     }

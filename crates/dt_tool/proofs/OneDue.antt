@@ -4,7 +4,7 @@ use Rattle.std.specs.FinMap as files_by_name
 use Rattle.std.proofs.lemmas.Bool.{cases_lt}
 use Rattle.dt_io.specs.Files.{Files}
 use Rattle.dt_lines.specs.declared.scan.TheConstants.{LARGEST_FILE}
-use Rattle.dt_forms.specs.Options.{default_options}
+use Rattle.dt_scope.specs.Options.{default_options}
 use Rattle.dt_tree.proofs.OneVerdict.{one_verdict, some_verdict}
 use Rattle.dt_tool.specs.Due.{Due, usage, missing, refused, due_of_verdict, IsDue, IsDueOf, IsDueOfFiles, IsDueOfInput, IsDueOfWords}
 use Rattle.dt_tool.specs.Messages as said

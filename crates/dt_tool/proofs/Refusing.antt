@@ -10,9 +10,9 @@ use Rattle.dt_forms.specs.declared.fault.Fault.{Fault as Reported}
 use Rattle.dt_forms.specs.declared.fault.ModelFault.{ModelFault}
 use Rattle.dt_forms.specs.declared.fault.ModelFault.TheVariants as faults
 use Rattle.dt_forms.specs.FileFaults.{fault_in_file, file_fault, first_broken}
-use Rattle.dt_forms.specs.Options.{default_options}
+use Rattle.dt_scope.specs.Options.{default_options}
 use Rattle.dt_forms.specs.Models.{flat_list}
-use Rattle.dt_forms.specs.Patterns.{FlatPattern}
+use Rattle.dt_scope.specs.Patterns.{FlatPattern}
 use Rattle.dt_fields.specs.Faults.{Detail, nothing}
 use Rattle.dt_forms.specs.Rules.{Fault, first_fault}
 use Rattle.dt_fields.specs.View.{IsDetailWithin, detail_seen}

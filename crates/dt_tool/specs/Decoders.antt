@@ -1,7 +1,7 @@
 -- Texts that decode what files say, with the options that hold where no word says otherwise (docs/LANGUAGE.md).
 use Rattle.std.specs.Prelude.{ℕ, List, Option}
 use Rattle.dt_forms.specs.Models.{definitions_of, trial_list}
-use Rattle.dt_forms.specs.Options.{default_options}
+use Rattle.dt_scope.specs.Options.{default_options}
 use Rattle.c_writer.specs.Decoders.{AppendsDecoder, IsDecoder}
 use Rattle.c_writer.specs.Uses.{outside_sets}
 

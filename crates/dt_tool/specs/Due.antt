@@ -4,7 +4,7 @@ use Rattle.std.specs.FinMap as map
 use Rattle.dt_io.specs.Files.{Files}
 use Rattle.dt_lines.specs.declared.scan.TheConstants.{LARGEST_FILE}
 use Rattle.dt_forms.specs.Models.{definitions_of}
-use Rattle.dt_forms.specs.Options.{default_options}
+use Rattle.dt_scope.specs.Options.{default_options}
 use Rattle.dt_tree.specs.Verdicts.{Verdict, kept, broken, overlapping, IsVerdict}
 use Rattle.c_writer.specs.Layout.{layout}
 use Rattle.c_writer.specs.Parts.{parts_of}

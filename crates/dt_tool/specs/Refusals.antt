@@ -4,7 +4,7 @@ use Rattle.dt_lines.specs.declared.line.Position.{Position}
 use Rattle.dt_forms.specs.declared.fault.ModelFault.{ModelFault}
 use Rattle.dt_forms.specs.declared.fault.ModelFault.TheVariants as faults
 use Rattle.dt_forms.specs.declared.source.Source.{Source}
-use Rattle.dt_forms.specs.Patterns.{FlatPattern}
+use Rattle.dt_scope.specs.Patterns.{FlatPattern}
 use Rattle.dt_forms.specs.Rules.{Fault}
 use Rattle.dt_fields.specs.View.{IsDetailWithin}
 use Rattle.dt_forms.specs.View.{fault_seen, text_of_file}

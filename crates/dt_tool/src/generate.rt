@@ -6,7 +6,7 @@ ghost use Rattle.dt_io.specs.Files.{Held};
 ghost use Rattle.dt_io.specs.Folders.{IsOnlyRead, ReadFailed};
 ghost use Rattle.dt_forms.specs.FileFaults.{file_fault};
 ghost use Rattle.dt_forms.specs.Models.{IsModelOf};
-ghost use Rattle.dt_forms.specs.Options.{IsOptions};
+ghost use Rattle.dt_scope.specs.Options.{IsOptions};
 ghost use Rattle.dt_forms.specs.Rules.{first_fault};
 ghost use Rattle.dt_forms.specs.Sound.{IsSound};
 ghost use Rattle.dt_forms.specs.Sources.{AreSources, IsSourceAt};

@@ -2,6 +2,8 @@
 
 mod arguments;
 mod definitions;
+mod format_texts;
+mod formats;
 mod outcomes;
 mod refusals;
 mod runs;

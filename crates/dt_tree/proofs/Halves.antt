@@ -7,7 +7,7 @@ use Rattle.std.proofs.lemmas.List.{get_or_default}
 use Rattle.std.proofs.lemmas.List.Kept.{AllPairs-from_increasing, IsStrictlyIncreasing-filter}
 use Rattle.std.proofs.lemmas.List.Filters.{length-filter_both}
 use Rattle.std.proofs.lemmas.Bool.{eqb-true, cases_Bool, leb-true, leb-false, cond-true, cond-false}
-use Rattle.dt_forms.specs.Patterns.{FlatPattern}
+use Rattle.dt_scope.specs.Patterns.{FlatPattern}
 use Rattle.dt_tree.specs.Knots.{pattern_at, value_at, IsPartOf, Agree, IsKnot, IsParted, IsFirstKnot}
 use Rattle.dt_tree.specs.FirstKnots.{IsSplitBy, HasNoKnot, IsFirstKnotOf, IsAnswer, IsAnswerOfAll, earlier_of}
 use Rattle.dt_tree.proofs.Members.{bit_cases, filter_passed, filter_part, filter_kept, contains_none, contains_cases}

@@ -2,7 +2,7 @@
 use Rattle.std.proofs.Common.{ℕ, ◌≡◌, List, ◌++◌, sym, ◌∙◌, inl, inr}
 use Rattle.std.specs.Prelude.{Contains}
 use Rattle.std.proofs.lemmas.List.Elements.{Contains-append_left, Contains-append_right, Contains-append_cases}
-use Rattle.dt_forms.specs.Patterns.{FlatPattern}
+use Rattle.dt_scope.specs.Patterns.{FlatPattern}
 use Rattle.dt_tree.specs.Knots.{Fixes, value_at, IsKnot}
 
 pub knots_join : (ps : List FlatPattern) (ks ls : List ℕ) (i : ℕ) → IsKnot ps ks → IsKnot ps ls → Contains ks i → Contains ls i → IsKnot ps (ks ++ ls)

@@ -4,7 +4,7 @@ use Rattle.std.specs.Prelude.{Contains, bit_and, min}
 use Rattle.std.specs.Int.{bit_at}
 use Rattle.std.proofs.lemmas.Bool.{cases_eq, eqb-true}
 use Rattle.std.proofs.lemmas.Nat.Bits.{bit_at_and, bit_at-lt}
-use Rattle.dt_forms.specs.Patterns.{FlatPattern, Matches}
+use Rattle.dt_scope.specs.Patterns.{FlatPattern, Matches}
 use Rattle.dt_tree.specs.Knots.{pattern_at, Fixes, value_at, IsKnot, IsParted}
 use Rattle.dt_tree.proofs.Members.{contains_head, contains_tail, contains_cases, contains_none}
 

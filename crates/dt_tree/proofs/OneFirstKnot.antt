@@ -11,7 +11,7 @@ use Rattle.std.proofs.lemmas.Map.Lookups.{btree_set_from_contains, exact_unsigne
 use Rattle.std.proofs.lemmas.Map.Views.{btree_set_contains_iff}
 use Rattle.std.proofs.lemmas.List.Elements.{Contains-get_or}
 use Rattle.std.proofs.lemmas.Bool.{cases_Bool}
-use Rattle.dt_forms.specs.Patterns.{FlatPattern}
+use Rattle.dt_scope.specs.Patterns.{FlatPattern}
 use Rattle.dt_tree.specs.Knots.{IsPartOf, IsFirstKnot}
 
 -- rising numbers with the same members are one list

@@ -2,8 +2,8 @@
 use Rattle.std.proofs.Common.{◌≡◌, ℕ, List, map, Option, Some, None, refl, ap, sym, ◌∙◌, inl, inr}
 use Rattle.dt_forms.specs.FileFaults.{first_broken}
 use Rattle.dt_forms.specs.Models.{flat_list}
-use Rattle.dt_forms.specs.Patterns.{FlatPattern}
-use Rattle.dt_forms.specs.declared.options.Options.{Options}
+use Rattle.dt_scope.specs.Patterns.{FlatPattern}
+use Rattle.dt_scope.specs.declared.options.Options.{Options}
 use Rattle.dt_forms.specs.Rules.{Fault}
 use Rattle.dt_lines.specs.declared.line.Position.{Position}
 use Rattle.dt_tree.specs.Knots.{IsParted}

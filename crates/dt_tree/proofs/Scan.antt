@@ -6,7 +6,7 @@ use Rattle.std.proofs.lemmas.List.Elements.{Contains-push_cases, Contains-get_or
 use Rattle.std.proofs.lemmas.List.{take_more, take_all}
 use Rattle.std.proofs.lemmas.Nat.{and_le_l}
 use Rattle.std.proofs.lemmas.Nat.Bits.{bit_at_and, bit_at_or, bit_at_xor, bit_at-lt, bit_at-zero, bit_at-trailing_zeros}
-use Rattle.dt_forms.specs.Patterns.{FlatPattern}
+use Rattle.dt_scope.specs.Patterns.{FlatPattern}
 use Rattle.dt_tree.specs.Knots.{pattern_at, Fixes, value_at, Agree}
 use Rattle.dt_tree.specs.FirstKnots.{IsSplitBy}
 use Rattle.dt_tree.proofs.Members.{bit_cases, contains_none}

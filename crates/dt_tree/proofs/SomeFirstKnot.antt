@@ -8,7 +8,7 @@ use Rattle.std.proofs.lemmas.Bool.{cases_lt, cases_eq}
 use Rattle.std.proofs.lemmas.Nat.Bits.{bit_at_lowest, bit_at-suc}
 use Rattle.std.proofs.lemmas.List.Elements.{Contains-get_or}
 use Rattle.std.proofs.lemmas.List.FromFn.{length-range_with_len, get_or-range_with_len}
-use Rattle.dt_forms.specs.Patterns.{FlatPattern}
+use Rattle.dt_scope.specs.Patterns.{FlatPattern}
 use Rattle.dt_tree.specs.Knots.{pattern_at, Agree, IsParted, IsFirstKnot}
 use Rattle.dt_tree.specs.FirstKnots.{IsSplitBy, IsAnswer, IsAnswerOfAll, earlier_of}
 use Rattle.dt_tree.proofs.Scan.{IsScan, scan_start, scan_step, scan_end, scan_agrees, scan_splits}

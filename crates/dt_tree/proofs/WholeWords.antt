@@ -3,7 +3,7 @@ use Rattle.std.proofs.Common.{ℕ, ◌≡◌, ◌<◌, List, length, ◌∙◌, 
 use Rattle.std.specs.Prelude.{Contains, All}
 use Rattle.std.specs.Int.{bit_at}
 use Rattle.std.proofs.lemmas.Nat.Bits.{bit_at_ones, same_from_bits_below}
-use Rattle.dt_forms.specs.Patterns.{FlatPattern}
+use Rattle.dt_scope.specs.Patterns.{FlatPattern}
 use Rattle.dt_tree.specs.Knots.{nothing, pattern_at, Fixes, IsKnot, IsWhole, HaveOneWord}
 
 whole_at : (width : ℕ) (ps : List FlatPattern) (i : ℕ) → All (IsWhole width) ps → i < length ps → IsWhole width (pattern_at ps i)

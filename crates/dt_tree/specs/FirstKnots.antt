@@ -3,7 +3,7 @@ use Rattle.std.specs.Prelude.{ℕ, ◌≡◌, ◌≤◌, List, Contains, slice_i
 use Rattle.std.specs.Prelude.{Option, Some, None, option_map, Vec}
 use Rattle.std.specs.List.Sorted.{IsStrictlyIncreasing}
 use Rattle.std.specs.declared.alloc.Global.{Global}
-use Rattle.dt_forms.specs.Patterns.{FlatPattern}
+use Rattle.dt_scope.specs.Patterns.{FlatPattern}
 use Rattle.dt_tree.specs.Knots.{Fixes, value_at, IsPartOf, IsKnot, IsParted, IsFirstKnot}
 
 -- all of these places fix bit b, some to 0 and some to 1

@@ -1,7 +1,7 @@
 -- What a model is refused for, and what the refusal shows.
 use Rattle.std.specs.Prelude.{ℕ, ◌≡◌, List, map}
 use Rattle.dt_lines.specs.declared.line.Position.{Position}
-use Rattle.dt_forms.specs.Patterns.{FlatPattern, position_of}
+use Rattle.dt_scope.specs.Patterns.{FlatPattern, position_of}
 use Rattle.dt_tree.specs.declared.fault.TreeFault.{TreeFault}
 use Rattle.dt_tree.specs.declared.fault.TreeFault.TheVariants.{Knot, NoMemory}
 use Rattle.dt_tree.specs.Knots.{pattern_at, IsFirstKnot}

@@ -3,7 +3,7 @@ use Rattle.std.specs.Prelude.{ℕ, ◌≡◌, List, Some, None}
 use Rattle.dt_lines.specs.declared.line.Position.{Position}
 use Rattle.dt_forms.specs.FileFaults.{first_broken}
 use Rattle.dt_forms.specs.Models.{flat_list}
-use Rattle.dt_forms.specs.declared.options.Options.{Options}
+use Rattle.dt_scope.specs.declared.options.Options.{Options}
 use Rattle.dt_forms.specs.Rules.{Fault}
 use Rattle.dt_tree.specs.Knots.{IsParted}
 use Rattle.dt_tree.specs.Refusals.{ShowsFirstKnot}

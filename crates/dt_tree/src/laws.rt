@@ -1,8 +1,8 @@
 //! Laws of knots and verdicts: public functions whose contracts are the laws, and whose bodies are empty.
 
 ghost use Rattle.std.specs.Prelude.{◌≡◌, ◌<◌, ◌↔◌, ◌⊎◌, ℕ, List, ◌++◌, length, All, Contains};
-ghost use Rattle.dt_forms.specs.declared.options.Options.{Options};
-ghost use Rattle.dt_forms.specs.Patterns.{FlatPattern, Matches};
+ghost use Rattle.dt_scope.specs.declared.options.Options.{Options};
+ghost use Rattle.dt_scope.specs.Patterns.{FlatPattern, Matches};
 ghost use Rattle.dt_tree.specs.Knots.{pattern_at, IsKnot, IsParted, IsFirstKnot, IsWhole, HaveOneWord};
 ghost use Rattle.dt_tree.specs.Verdicts.{Verdict, IsVerdict};
 

@@ -1,15 +1,11 @@
 //! Pattern lines with fields, sets and arguments of their own.
 
-use super::{is_fault, model_of, read, text};
+use super::{choice_of, is_fault, model_of, named, read, text};
 use crate::FieldValue;
 use dt_fields::{Detail, FieldDef, Rule, Segment};
 use dt_lines::LARGEST_FILE;
 use dt_values::{CType, Name, Width};
 use std::test::Fail;
-
-fn named(name: &[u8]) -> Result<Detail, Fail> {
-    Ok(Detail::Named(Name::from_bytes(name).ok_or("a name")?))
-}
 
 #[test]
 fn tokens_are_refused_by_their_first_rule(rt: HostRuntime) -> Result<(), Fail> {
@@ -196,30 +192,6 @@ fn arguments_get_the_bits_at_their_place(rt: HostRuntime) -> Result<(), Fail> {
     assert_eq!(rt; (p.fixed_mask, p.fixed_bits, p.ignored), (4, 4, 0));
     assert!(rt; p.values.items().is_empty());
     Ok(())
-}
-
-// How many sets and formats there are, and the numbers of the last pattern's format and set.
-fn choice_of(
-    rt: &HostRuntime,
-    width: Width,
-    file: &[u8],
-) -> Result<(usize, usize, u32, u32), Fail> {
-    if file.len() > 200 {
-        return Err("too long".into());
-    }
-    let model = model_of(read(rt.alloc(), width, file)?)?;
-    let pattern = model.patterns.items().last().ok_or("a pattern")?;
-    let format = model
-        .formats
-        .items()
-        .get(pattern.format as usize)
-        .ok_or("a format")?;
-    Ok((
-        model.sets.items().len(),
-        model.formats.items().len(),
-        pattern.format,
-        format.set,
-    ))
 }
 
 #[test]

@@ -23,8 +23,8 @@ fn elements_are_refused_by_their_first_rule(rt: HostRuntime) -> Result<(), Fail>
             "%f 0:1\np f:4 %f",
             "t:2: error: G5 duplicate argument: %f\n",
         ),
-        ("p a=1", "t:1: error: N2 not built\n"),
-        ("p @a", "t:1: error: N2 not built\n"),
+        ("p a=1", "t:1: error: G9 wrong bit count: 0\n"),
+        ("p @a", "t:1: error: G4 undefined format: @a\n"),
     ];
     for (text, err) in table {
         check_text(&rt, text.as_bytes(), 1, b"", err.as_bytes())?;

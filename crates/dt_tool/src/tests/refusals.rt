@@ -40,8 +40,11 @@ fn files_are_refused_by_the_first_rule_of_their_least_broken_line(
         ),
         (b"\t# a\n", b"t:1: error: L1 indentation: 8\n"),
         (b"*a 0x\n", b"t:1: error: L7 invalid name: *a\n"),
-        (b"a 0000000000000000 r=5\n", b"t:1: error: N2 not built\n"),
-        (b"@f ----\n", b"t:1: error: N2 not built\n"),
+        (
+            b"a 0000000000000000 r=5\n",
+            b"t:1: error: G9 wrong bit count: 16\n",
+        ),
+        (b"@f ----\n", b"t:1: error: G9 wrong bit count: 4\n"),
         (b"{\n", b"t:1: error: N2 not built\n"),
         (b"*a 0\n", b"t:1: error: L7 invalid name: *a\n"),
         (
@@ -50,7 +53,7 @@ fn files_are_refused_by_the_first_rule_of_their_least_broken_line(
         ),
         (
             b"a 00000000000000000000000000000000\na 00000000000000000000000000000000 @x\n",
-            b"t:2: error: N2 not built\n",
+            b"t:2: error: G4 undefined format: @x\n",
         ),
         (
             b"a 00000000000000000000000000000000\na 00000000000000000000000000000000\nb 0\nc\n",
@@ -58,7 +61,7 @@ fn files_are_refused_by_the_first_rule_of_their_least_broken_line(
         ),
         (
             b" a @x 00000000000000000000000000000000\n",
-            b"t:1: error: N2 not built\n",
+            b"t:1: error: L1 indentation: 1\n",
         ),
     ];
     for (text, err) in table {

@@ -1,6 +1,6 @@
 use Rattle.std.proofs.Common.{◌≡◌, ◌<◌, ℕ, false, get_or}
 use Rattle.dt_values.specs.Widths.{width_bits}
-use Rattle.dt_forms.specs.declared.form.Format.{Format}
+use Rattle.dt_scope.specs.declared.form.Format.{Format}
 use Rattle.dt_forms.specs.Inference.{fits_pattern}
 use Rattle.dt_forms.proofs.infer.matching_format.Given as goal
 

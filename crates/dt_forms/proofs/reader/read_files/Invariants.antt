@@ -1,7 +1,7 @@
 use Rattle.std.proofs.Common.{◌≡◌}
 use Rattle.dt_forms.specs.FileLines.{all_lines}
 use Rattle.dt_forms.specs.Rules.{after_lines, faults_from, scope_before}
-use Rattle.dt_forms.specs.Scope.{nothing_defined}
+use Rattle.dt_scope.specs.Scope.{nothing_defined}
 use Rattle.dt_forms.specs.View.{texts_of}
 use Rattle.dt_forms.proofs.ReadFiles.{lines_from}
 use Rattle.dt_forms.proofs.reader.read_files.Given as goal

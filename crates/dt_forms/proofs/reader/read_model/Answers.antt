@@ -2,7 +2,7 @@ use Rattle.std.proofs.Common.{◌≡◌, ◌≤◌, length, subst, sym, ap}
 use Rattle.std.proofs.lemmas.List.{length-map}
 use Rattle.dt_forms.specs.Models.{IsModelOf}
 use Rattle.dt_forms.specs.View.{texts_of}
-use Rattle.dt_forms.specs.Scope.{Scope}
+use Rattle.dt_scope.specs.Scope.{Scope}
 use Rattle.dt_forms.proofs.ModelParts.{model_of_files}
 use Rattle.dt_forms.proofs.ReadSources.{sources_short}
 use Rattle.dt_forms.proofs.Soundness.{files_sound, sound_model}

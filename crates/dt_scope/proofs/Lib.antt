@@ -1,0 +1,6 @@
+pub mod Widths
+pub mod BinaryNumbers
+pub mod PatternDigits
+pub mod PatternNames
+pub mod Gathering
+pub mod Fits

@@ -1,0 +1,11 @@
+pub mod Options
+pub mod Bits
+pub mod Patterns
+pub mod FormatsByName
+pub mod Names
+pub mod Scope
+pub mod Fitting
+pub mod Elements
+pub mod ElementView
+pub mod Gathering
+pub mod ElementRows

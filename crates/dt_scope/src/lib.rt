@@ -1,0 +1,25 @@
+//! What lines of pattern files define, and what the elements of a line give it.
+#![tactic(auto)]
+
+pub mod bits;
+mod digits;
+mod element;
+pub mod form;
+pub mod formats;
+pub mod gather;
+pub mod options;
+pub mod patterns;
+pub mod scope;
+pub mod value;
+
+pub use bits::{Bits, all_bits};
+pub use digits::Digits;
+pub use form::{Format, FormatList, Pattern, PatternList};
+pub use formats::Formats;
+pub use options::Options;
+pub use patterns::Patterns;
+pub use scope::Scope;
+pub use value::{FieldValue, ValueList};
+
+#[cfg(test)]
+mod tests;

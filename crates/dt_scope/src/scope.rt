@@ -1,0 +1,163 @@
+//! What the lines read so far define.
+
+ghost use Rattle.std.specs.Prelude.{◌≡◌, ◌++◌, ◌∷◌, [], ℕ, List, None, Some, length, map, IsTrue, IfErr, IfOk, IfSome, OnOk};
+ghost use Rattle.std.specs.Option.{option_copied};
+ghost use Rattle.dt_values.specs.Widths.{width_bits};
+ghost use Rattle.dt_lines.specs.Spans.{AreSpans, text_at};
+ghost use Rattle.dt_fields.specs.Faults.{Broken};
+ghost use Rattle.dt_fields.specs.FieldLines.{begins_field, field_line_faults, line_field};
+ghost use Rattle.dt_fields.specs.SetLines.{begins_set, line_set, set_line_faults};
+ghost use Rattle.dt_fields.specs.SetsByName.{set_at};
+ghost use Rattle.dt_fields.specs.Tables.{entry_at};
+ghost use Rattle.dt_fields.specs.View.{DefBroken};
+ghost use Rattle.dt_scope.specs.Fitting.{FieldFits, FormatsFit, ValuesFit};
+ghost use Rattle.dt_scope.specs.FormatsByName.{format_at};
+ghost use Rattle.dt_scope.specs.Scope.{nothing_defined, pattern_names};
+
+use crate::form::{Format, Pattern};
+use crate::formats::Formats;
+use crate::patterns::Patterns;
+use dt_fields::{DefFault, FieldDef, Fields, SetDef, Sets, args_line, field_line};
+use dt_lines::Logical;
+use dt_values::{Name, Width};
+use std::alloc::{AllocError, Global};
+use std::marker::Model;
+
+/// Fields, sets, formats and patterns, with those that are inferred. Contracts see the lists of them in order of
+/// definition.
+#[derive(Drop)]
+pub struct Scope {
+    fields: Fields,
+    sets: Sets,
+    formats: Formats,
+    patterns: Patterns,
+}
+
+impl Model for Scope {
+    ghost use Rattle.dt_scope.specs.Fitting.{FieldsFit, FormatsFit};
+    ghost use Rattle.dt_scope.specs.Scope.{Scope as Seen};
+
+    ghost Value = { Seen };
+
+    ghost view = { λ s. record { fields = s.fields; sets = s.sets; formats = s.formats; patterns = s.patterns } };
+
+    ghost invariant = { λ s. FieldsFit s.fields × FormatsFit s.formats };
+}
+
+impl Scope {
+    /// Nothing.
+    pub fn new(alloc: Global) -> Scope
+        ensures { result ≡ nothing_defined }
+    {
+        Scope {
+            fields: Fields::new(alloc),
+            sets: Sets::new(alloc),
+            formats: Formats::new(alloc),
+            patterns: Patterns::new(alloc),
+        }
+    }
+
+    /// The field of this name.
+    pub fn field(&self, name: Name) -> Option<&FieldDef>
+        ensures field { option_copied result ≡ entry_at self.now.fields name }
+        ensures fits { IfSome (option_copied result) FieldFits }
+    {
+        self.fields.get(name)
+    }
+
+    /// The argument sets.
+    pub fn sets(&self) -> &Sets
+        ensures { result.now ≡ self.now.sets }
+    {
+        &self.sets
+    }
+
+    /// The formats.
+    pub fn formats(&self) -> &Formats
+        ensures formats { result.now ≡ self.now.formats }
+        ensures fit { FormatsFit result.now }
+    {
+        &self.formats
+    }
+
+    /// The patterns.
+    pub fn patterns(&self) -> &Patterns
+        ensures { result.now ≡ self.now.patterns }
+    {
+        &self.patterns
+    }
+
+    /// Adds the field of a line.
+    pub fn add_field(
+        &mut self,
+        alloc: Global,
+        width: Width,
+        source: &[u8],
+        line: &Logical,
+    ) -> Result<(), DefFault>
+        requires spans { AreSpans (length source.now) line.now.tokens }
+        requires field { IsTrue (begins_field (map (text_at source.now) line.now.tokens)) }
+        ensures after { OnOk result (self.new ≡ record self.old {
+          fields = self.old.fields ++ line_field (map (text_at source.now) line.now.tokens) ∷ [];
+        }) }
+        ensures kept { OnOk result (field_line_faults (width_bits width) self.old.fields
+            (map (text_at source.now) line.now.tokens) ≡ []) }
+        ensures broken { IfErr result (λ fault. DefBroken source.now fault
+            (field_line_faults (width_bits width) self.old.fields (map (text_at source.now) line.now.tokens))) }
+    {
+        field_line(alloc, width, &mut self.fields, source, line)
+    }
+
+    /// Adds the set of a line.
+    pub fn add_set(&mut self, alloc: Global, source: &[u8], line: &Logical) -> Result<(), DefFault>
+        requires spans { AreSpans (length source.now) line.now.tokens }
+        requires set { IsTrue (begins_set (map (text_at source.now) line.now.tokens)) }
+        ensures after { OnOk result (self.new ≡ record self.old {
+          sets = self.old.sets ++ line_set (map (text_at source.now) line.now.tokens) ∷ [];
+        }) }
+        ensures kept { OnOk result (set_line_faults self.old.sets (pattern_names self.old.patterns)
+            (map (text_at source.now) line.now.tokens) ≡ []) }
+        ensures broken { IfErr result (λ fault. DefBroken source.now fault
+            (set_line_faults self.old.sets (pattern_names self.old.patterns)
+            (map (text_at source.now) line.now.tokens))) }
+    {
+        args_line(alloc, &mut self.sets, self.patterns.names(), source, line)
+    }
+
+    /// Adds a set of a new name.
+    pub fn push_set(&mut self, set: SetDef) -> Result<(), AllocError>
+        requires { set_at self.old.sets set.name ≡ None }
+        ensures { OnOk result (self.new ≡ record self.old { sets = self.old.sets ++ set ∷ [] }) }
+    {
+        self.sets.add(set)
+    }
+
+    /// Adds a format of a new name, whose fields lie in a word.
+    pub fn push_format(&mut self, format: Format) -> Result<(), AllocError>
+        requires new { format_at self.old.formats format.name ≡ None }
+        requires fits { ValuesFit format.values }
+        ensures { OnOk result (self.new ≡ record self.old { formats = self.old.formats ++ format ∷ [] }) }
+    {
+        self.formats.add(format)
+    }
+
+    /// Adds a pattern.
+    pub fn push_pattern(&mut self, pattern: Pattern) -> Result<(), AllocError>
+        ensures { OnOk result (self.new ≡ record self.old { patterns = self.old.patterns ++ pattern ∷ [] }) }
+    {
+        self.patterns.push(pattern)
+    }
+
+    /// The sets, the formats and the patterns as lists of their own.
+    pub fn into_parts(
+        self,
+        alloc: Global,
+    ) -> Result<(Vec<SetDef>, Vec<Format>, Vec<Pattern>), AllocError>
+        ensures { IfOk result (λ parts. (parts.0.items ≡ self.sets) × (parts.1.items ≡ self.formats)
+            × (parts.2.items ≡ self.patterns)) }
+    {
+        let sets = self.sets.into_items(alloc)?;
+        let formats = self.formats.into_items(alloc)?;
+        Ok((sets, formats, self.patterns.into_items()))
+    }
+}
