@@ -141,7 +141,7 @@ unfolding see read
 call_line_lexes w level decoder prefix n set h k l =
     line_lexes _ _ (tt, (tt, (name_is_word prefix h, (underscore, (name_is_word n k, (tt, (name_is_word set l, (tt, tt)))))))) refl
 
-if_line_lexes : (w : Width) (level mask value : ℕ) → Lexes (if_line w level mask value) (if_spelled w mask value)
+if_line_lexes : (w : Width) (level mask value : ℕ) → Lexes (if_line (hex_length w) level mask value) (if_spelled w mask value)
 unfolding see read
 if_line_lexes w level mask value = line_lexes _ _ (tt, (tt, (hex_of_width w mask, (tt, (hex_of_width w value, (tt, tt)))))) refl
 

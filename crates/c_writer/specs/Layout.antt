@@ -124,16 +124,18 @@ body_lines p level q =
     ++ (own_lines p.width level q
     ++ call_line level p.prefix.name q.trial.flat.name q.set))
 
-abbrev pub if_line : Width → ℕ → ℕ → ℕ → List ℕ
-if_line w level mask value =
-    pieces_text (spaces level ∷ text (codes "if ((insn & 0x") ∷ name (hex (hex_length w) mask)
-    ∷ text (codes ") == 0x") ∷ name (hex (hex_length w) value) ∷ text (codes ") {\n") ∷ [])
+-- a word is shown by so many digits
+abbrev pub if_line : ℕ → ℕ → ℕ → ℕ → List ℕ
+if_line digits level mask value =
+    pieces_text (spaces level ∷ text (codes "if ((insn & 0x") ∷ name (hex digits mask)
+    ∷ text (codes ") == 0x") ∷ name (hex digits value) ∷ text (codes ") {\n") ∷ [])
 
 -- a pattern that fixes no bit has its body alone
 abbrev pub test_lines : Bool → Parts → NamedPattern → List ℕ
 test_lines true p q = body_lines p 4 q
 test_lines false p q =
-    if_line p.width 4 q.trial.flat.fixed_mask q.trial.flat.fixed_bits ++ (body_lines p 8 q ++ close_line 4)
+    if_line (hex_length p.width) 4 q.trial.flat.fixed_mask q.trial.flat.fixed_bits
+    ++ (body_lines p 8 q ++ close_line 4)
 
 abbrev pub pattern_lines : Parts → NamedPattern → List ℕ
 pattern_lines p q = test_lines (q.trial.flat.fixed_mask == 0) p q

@@ -237,10 +237,9 @@ fn hex_digits(width: Width) -> u32
     width.bits() / 4
 }
 
-fn write_if_line<W: Out>(out: &mut W, width: Width, level: u32, mask: u64, value: u64)
-    ensures { Puts (W.state out.old) (W.state out.new) (if_line width level mask value) }
+fn write_if_line<W: Out>(out: &mut W, digits: u32, level: u32, mask: u64, value: u64)
+    ensures { Puts (W.state out.old) (W.state out.new) (if_line digits level mask value) }
 {
-    let digits = hex_digits(width);
     write_parts(
         out,
         &[
@@ -274,7 +273,7 @@ fn write_guarded_body<W: Out>(out: &mut W, options: &Options, model: &Model, pat
 {
     write_if_line(
         out,
-        options.width,
+        hex_digits(options.width),
         4,
         pattern.fixed_mask,
         pattern.fixed_bits,
