@@ -3,7 +3,7 @@
 ghost use Rattle.std.specs.Prelude.{◌≡◌};
 
 /// The rules, by their codes: K of files, L of structure, P of field lines, A of set lines,
-/// G of format and pattern lines, H of groups, N of what isn't built. Each says when it is broken.
+/// G of format and pattern lines and H of groups. Each says when it is broken.
 #[derive(Clone, Copy, Debug, PartialEq, Eq)]
 pub enum Rule {
     /// The file has more physical lines than a file may have.
@@ -120,8 +120,6 @@ pub enum Rule {
     H2,
     /// Patterns below one group have different widths.
     H3,
-    /// The line has a form that this reader doesn't read yet.
-    N2,
 }
 
 impl Rule {
@@ -189,7 +187,6 @@ impl Rule {
             Rule::H1 => "H1 empty group",
             Rule::H2 => "H2 overlapping",
             Rule::H3 => "H3 widths differ",
-            Rule::N2 => "N2 not built",
         }
     }
 }

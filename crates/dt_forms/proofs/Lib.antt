@@ -5,13 +5,16 @@ pub mod NewArguments
 pub mod Faults
 pub mod ReadLines
 pub mod ReadFiles
+pub mod OpenGroups
 pub mod ReadSources
 pub mod LinesByNumber
 pub mod BrokenFiles
 pub mod HeadTokens
 pub mod NumberedNames
 pub mod OptionNames
-pub mod Entries
+pub mod EntryNumbers
+pub mod EntryDepths
+pub mod EntryPositions
 pub mod SameNames
 pub mod SameFields
 pub mod LineValues
@@ -25,5 +28,6 @@ pub mod SoundBits
 pub mod SoundLines
 pub mod LineOrder
 pub mod LinePatterns
+pub mod EntryOrder
 pub mod ModelParts
 pub mod Soundness

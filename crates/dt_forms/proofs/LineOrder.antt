@@ -8,7 +8,7 @@ use Rattle.std.proofs.lemmas.List.{length-append, length-map}
 use Rattle.std.proofs.lemmas.List.Elements.{All-nil, All-cons, All-append, All-head, All-map, All-tail, All-weaker}
 use Rattle.dt_lines.specs.Lines.{Line, logical_lines, physical_lines}
 use Rattle.dt_lines.proofs.Numbers.{LinesRise, lines_later, logical_lines_rise, length-physical_lines}
-use Rattle.dt_forms.specs.FileLines.{FileLine, all_lines, in_file, line_position, lines_of_files}
+use Rattle.dt_forms.specs.FileLines.{FileLine, file_lines, all_lines, in_file, line_position, lines_of_files}
 use Rattle.dt_forms.specs.Positions.{first_token_at, first_token_in, leading_token}
 
 -- a place from which on a line lies
@@ -107,6 +107,12 @@ lines_found file first last (l ∷ ls) rise =
     All-cons (IsFoundIn file first (l ∷ ls)) (in_file file l) (map (in_file file) ls)
     (record { same_file = refl; from = rise.0; token = cond-true (l.line == l.line) (leading_token l.tokens) (first_token_in ls l.line) (eq-eqb l.line l.line refl) })
     (All-weaker (IsFoundIn file (l.line + 1) ls) (IsFoundIn file first (l ∷ ls)) (later_found file first l ls rise.0) (map (in_file file) ls) (lines_found file (l.line + 1) last ls rise.2))
+
+-- the lines of a file
+pub tokens_found : (file : ℕ) (text : List ℕ) → All (λ l. first_token_in (logical_lines text) l.line.line ≡ leading_token l.line.tokens) (file_lines file text)
+tokens_found file text =
+    All-weaker (IsFoundIn file 1 (logical_lines text)) (λ (l : FileLine). first_token_in (logical_lines text) l.line.line ≡ leading_token l.line.tokens) (λ l k. k.token) (file_lines file text)
+    (lines_found file 1 (length (physical_lines text)) (logical_lines text) (logical_lines_rise text))
 
 -- a line of files of which the first has this place
 record IsFoundFrom (file : ℕ) (texts : List (List ℕ)) (l : FileLine) : Type 0 where

@@ -41,7 +41,8 @@ AddsAtMost before after position token = (after ≡ before) ⊎ AddsPattern befo
 
 module _ (options : Options) where
   head_adds : (scope : Scope) (position : Position) (first : List ℕ) (rest : List (List ℕ)) (hd : Head) → head_of first ≡ hd → AddsAtMost scope.patterns (after_head options scope position first rest hd).patterns position first
-  head_adds scope position first rest head.Group e = inl refl
+  head_adds scope position first rest (head.Opens kind) e = inl refl
+  head_adds scope position first rest (head.Closes kind) e = inl refl
   head_adds scope position first rest (head.Field name) e = inl refl
   head_adds scope position first rest (head.Set name) e = inl refl
   head_adds scope position first rest (head.Format name) e = inl refl
@@ -77,13 +78,13 @@ module _ (options : Options) where
   abbrev AreBefore : ℕ → ℕ → List Pattern → Type 0
   AreBefore file line patterns = All (λ p. IsEarlier (pattern_position p) (record { file = file; line = line })) patterns
 
-  earlier_line : (a : Position) (file line : ℕ) (l : FileLine) → IsFrom file line l → IsEarlier a (record { file = file; line = line }) → IsEarlier a (line_position l)
+  pub earlier_line : (a : Position) (file line : ℕ) (l : FileLine) → IsFrom file line l → IsEarlier a (record { file = file; line = line }) → IsEarlier a (line_position l)
   earlier_line a file line l (inl h) (inl k) = inl (omega arith)
   earlier_line a file line l (inl h) (inr k) = inl (let e : a.file ≡ file = k.0 in omega arith)
   earlier_line a file line l (inr h) (inl k) = inl (let e : file ≡ l.file = h.0 in omega arith)
   earlier_line a file line l (inr h) (inr k) = inr (k.0 ∙ h.0, let low : line ≤ l.line.line = h.1 in let high : a.line < line = k.1 in omega arith)
 
-  next_line : (a : Position) (l : FileLine) → IsEarlier a (line_position l) → IsEarlier a (record { file = l.file; line = l.line.line + 1 })
+  pub next_line : (a : Position) (l : FileLine) → IsEarlier a (line_position l) → IsEarlier a (record { file = l.file; line = l.line.line + 1 })
   next_line a l (inl h) = inl h
   next_line a l (inr h) = inr (h.0, let low : a.line < l.line.line = h.1 in omega arith)
 

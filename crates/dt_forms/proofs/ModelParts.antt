@@ -10,7 +10,6 @@ use Rattle.dt_forms.specs.FileLines.{all_lines}
 use Rattle.dt_forms.specs.Models.{Definitions, IsModelOf, IsModelOfScope, definitions_in, definitions_in_scope, flat_list}
 use Rattle.dt_forms.specs.Rules.{scope_before}
 use Rattle.dt_scope.specs.Scope.{Scope}
-use Rattle.dt_forms.specs.Trees.{entries_of, items_of, items_from, numbers_from, one}
 use Rattle.dt_forms.specs.View.{pattern_seen}
 
 abbrev definitions : List SetDef → List Format → List Pattern → Definitions
@@ -21,16 +20,11 @@ pub same_definitions : (sets others : List SetDef) (formats other_formats : List
     → definitions sets formats patterns ≡ definitions others other_formats other_patterns
 same_definitions sets others formats other_formats patterns other_patterns e f g = cc
 
-pub entries_made : (patterns : List Pattern) (n : ℕ) (entries all : List Pattern) → n ≡ length all → all ≡ patterns
-    → items_from (map one (numbers_from 0 n)) ≡ entries_of (map pattern_seen patterns)
-entries_made patterns n entries all count are =
-    ap (λ m. items_from (map one (numbers_from 0 m))) (count ∙ ap length are ∙ sym (length-map patterns pattern_seen))
-
 pub model_of_files : (options : Options) (texts : List (List ℕ)) (model : Model) (scope : Scope) → scope ≡ scope_before options (all_lines texts) → IsModelOfScope options scope model → IsModelOf options texts model
 model_of_files options texts model scope is h = record {
   width = h.width;
   variable = h.variable;
   definitions = h.definitions ∙ ap definitions_in_scope is;
   flat = ap (λ (d : Definitions). map pattern_seen d.patterns) (h.definitions ∙ ap definitions_in_scope is);
-  entries = h.entries ∙ ap (λ (s : Scope). entries_of (map pattern_seen s.patterns)) is;
+  entries = h.entries ∙ ap (λ (s : Scope). s.marks) is;
 }

@@ -1,12 +1,12 @@
 -- What lines that break no rule define.
-use Rattle.std.proofs.Common.{◌≡◌, ◌≢◌, ℕ, suc, zero, ◌+◌, ◌^◌, ◌<◌, ◌≤◌, ◌==◌, ◌&&◌, ◌||◌, ◌⊎◌, Bool, true, false, List, [], ◌∷◌, ◌++◌, length, get_or, map, Option, Some, None, refl, ap, ◌∙◌, sym, subst, inl, inr, ⊎_elim, arith, bit_and}
+use Rattle.std.proofs.Common.{◌≡◌, ◌≢◌, ℕ, suc, zero, ◌+◌, ◌-◌, ◌^◌, ◌<◌, ◌≤◌, ◌==◌, ◌&&◌, ◌||◌, ◌⊎◌, Bool, true, false, List, [], ◌∷◌, ◌++◌, length, get_or, map, take, Option, Some, None, refl, ap, ◌∙◌, sym, subst, inl, inr, ⊎_elim, arith, bit_and}
 use Rattle.std.specs.Prelude.{not, nat_le, is_some, codes, slice_get, IsTrue}
 use Rattle.std.specs.List.{All, AllPairs, list_any}
 use Rattle.std.specs.List.Sorted.{IsPermutation}
 use Rattle.std.proofs.Math.Pow.{pow_mono}
 use Rattle.std.proofs.lemmas.Bool.{eqb-true}
 use Rattle.std.proofs.lemmas.Bool.Decides.{nat_tests}
-use Rattle.std.proofs.lemmas.List.{get_or-map, length_push}
+use Rattle.std.proofs.lemmas.List.{append-nil, get_or-map, length-take-le, length_push}
 use Rattle.std.proofs.lemmas.List.Elements.{All-filter, All-nil, All-push, All-weaker}
 use Rattle.std.proofs.lemmas.List.Kept.{AllPairs-filter}
 use Rattle.std.proofs.lemmas.List.Quantifiers.{all_pairs_push, position-Some}
@@ -34,12 +34,16 @@ use Rattle.dt_forms.specs.declared.head.Head.TheVariants as head
 use Rattle.dt_scope.specs.declared.gather.Gathered.{Gathered}
 use Rattle.dt_forms.specs.declared.infer.Choice.{Choice}
 use Rattle.dt_scope.specs.declared.options.Options.{Options}
-use Rattle.dt_forms.specs.declared.reader.TheConstants.{MOST_PATTERNS}
+use Rattle.dt_forms.specs.declared.reader.TheConstants.{MOST_DEPTH, MOST_PATTERNS}
 use Rattle.dt_scope.specs.Bits.{bits_at_top, is_partial}
 use Rattle.dt_scope.specs.ElementRows.{element_faults}
 use Rattle.dt_scope.specs.FormatsByName.{is_format}
 use Rattle.dt_scope.specs.Gathering.{gathered, nothing_given}
+use Rattle.dt_scope.specs.declared.kind.Kind.{Kind}
+use Rattle.dt_scope.specs.declared.kind.Opening.{Opening}
+use Rattle.dt_scope.specs.Marks.{Mark, opens, closes, pattern_mark}
 use Rattle.dt_scope.specs.Options.{IsOptionName}
+use Rattle.dt_scope.specs.Trees.{numbers_from}
 use Rattle.dt_scope.specs.Patterns.{GivenValues}
 use Rattle.dt_scope.specs.Scope.{Scope, nothing_defined, pattern_names}
 use Rattle.dt_forms.specs.FileLines.{FileLine, line_position}
@@ -50,10 +54,13 @@ use Rattle.dt_forms.specs.LineArguments.{argument_rows, format_argument_rows, ou
 use Rattle.dt_forms.specs.LineBits.{base_rows, base_values, bits_with_base, fields_with_base, left_rows, meeting_rows, shared_bits_row}
 use Rattle.dt_forms.specs.LineNames.{has_other_set, is_set_name_taken, name_rows, names_other_set, new_name_row, new_name_rows, own_name_rows, set_number}
 use Rattle.dt_forms.specs.PatternLines.{after_pattern, mask_rows, pattern_faults, pattern_of, scope_with_pattern, whole_rows}
-use Rattle.dt_forms.specs.Rules.{after_head, after_line, after_lines, after_tokens, definition_faults, faults_from, faults_in, faults_of_line, head_faults, is_no_head, is_not_built, structure_rows}
+use Rattle.dt_forms.specs.Rules.{after_closing, after_head, after_line, after_lines, after_opening, after_tokens, definition_faults, faults_from, faults_in, faults_of_line, head_faults}
+use Rattle.dt_forms.specs.Structure.{extra_rows, indentation_row, opening_rows, pattern_row, structure_rows}
 use Rattle.dt_forms.specs.Sound.{AreMasks, HaveOneSet, IsSoundValue, given_names}
 use Rattle.dt_forms.proofs.Additions.{FormatsDiffer, IsFormatChosen, IsSetChosen, IsSoundFormat, IsSoundOf, SetsDiffer, choose_format, choose_set, format_kept, kept_by_formats, kept_by_sets, members_at, names_differ_more, one_set_more, same_set, set_number_kept, set_within, values_at}
 use Rattle.dt_forms.proofs.Arguments.{AreArgumentsIn, arguments_are_given, inside_by, member_names, new_arguments_are_given, value_names}
+use Rattle.dt_forms.proofs.EntryDepths.{AreNested, depth_after, depth_more, nested_more}
+use Rattle.dt_forms.proofs.EntryNumbers.{marked, marked_both, one_marked}
 use Rattle.dt_scope.proofs.PatternDigits.{none_at_top, whole_at_top}
 use Rattle.dt_forms.proofs.Faults.{none_on}
 use Rattle.dt_forms.proofs.HeadTokens.{field_begins, format_is_named, pattern_is_named, set_begins}
@@ -80,6 +87,9 @@ pub record IsSoundScope (width limit left : ℕ) (scope : Scope) : Type 0 where
   pub patterns : All (IsSoundOf width scope.sets scope.formats) scope.patterns
   pub one_set : AllPairs (HaveOneSet scope.formats) scope.patterns
   pub few : length scope.patterns ≤ MOST_PATTERNS
+  pub numbers : marked scope.marks ≡ numbers_from 0 (length scope.patterns)
+  pub nested : AreNested 0 scope.marks
+  pub depth : depth_after 0 scope.marks ≡ length scope.groups
 
 -- fewer lines are left
 fewer_left : (width limit left less : ℕ) (scope : Scope) → less ≤ left → IsSoundScope width limit left scope → IsSoundScope width limit less scope
@@ -94,6 +104,9 @@ fewer_left width limit left less scope h k = record {
   patterns = k.patterns;
   one_set = k.one_set;
   few = k.few;
+  numbers = k.numbers;
+  nested = k.nested;
+  depth = k.depth;
 }
 
 none_differ : {X : Type 0} (R : X → X → Type 0) → AllPairs R []
@@ -111,6 +124,9 @@ nothing_sound width limit = record {
   patterns = All-nil (IsSoundOf width [] []);
   one_set = none_differ (HaveOneSet []);
   few = omega arith;
+  numbers = refl;
+  nested = tt;
+  depth = refl;
 }
 
 new_is_free : (taken : List ℕ → Bool) (is_new : Bool) (name : List ℕ) → new_name_row taken (name_where is_new name) ≡ [] → is_new ≡ true → taken name ≡ false
@@ -213,12 +229,15 @@ with_more width limit left scope sets formats h more = record {
   patterns = All-weaker (IsSoundOf width scope.sets scope.formats) (IsSoundOf width sets formats) more.keeps scope.patterns h.patterns;
   one_set = one_set_kept width scope sets formats more h.patterns h.one_set;
   few = h.few;
+  numbers = h.numbers;
+  nested = h.nested;
+  depth = h.depth;
 }
 
 -- and with its pattern, whose set is that of the earlier patterns of its name
 with_pattern : (width limit left : ℕ) (scope : Scope) (sets : List SetDef) (formats : List Format) (p : Pattern) → IsSoundScope width limit (left + 1) scope → IsExtended width scope sets formats
     → IsSoundOf width sets formats p → has_other_set scope.formats scope.patterns (set_number formats p) p.name ≡ false → nat_le MOST_PATTERNS (length scope.patterns) ≡ false
-    → IsSoundScope width limit left (record scope { sets = sets; formats = formats; patterns = scope.patterns ++ p ∷ [] })
+    → IsSoundScope width limit left (record scope { sets = sets; formats = formats; patterns = scope.patterns ++ p ∷ []; marks = scope.marks ++ pattern_mark (length scope.patterns) ∷ [] })
 with_pattern width limit left scope sets formats p h more sound same room =
     let rest = with_more width limit left scope sets formats h more in
     let count : length (scope.patterns ++ p ∷ []) ≡ length scope.patterns + 1 = length_push scope.patterns p in
@@ -235,6 +254,9 @@ with_pattern width limit left scope sets formats p h more sound same room =
       one_set = one_set_more formats scope.patterns p (set_number formats p) refl rest.one_set
           (λ k d below e. more.keeps_set (get_or scope.patterns k d) (h.patterns k d below) ∙ same_set scope.formats scope.patterns (set_number formats p) p.name same k d below e);
       few = omega arith;
+      numbers = one_marked scope.marks (length scope.patterns) h.numbers ∙ ap (numbers_from 0) (sym count);
+      nested = nested_more 0 scope.marks (pattern_mark (length scope.patterns) ∷ []) h.nested tt;
+      depth = depth_more 0 scope.marks (pattern_mark (length scope.patterns) ∷ []) ∙ h.depth;
     }
 
 module _ (options : Options) (limit : ℕ) (decode : IsOptionName options.decode) (small : limit < 2 ^ 64) where
@@ -502,27 +524,26 @@ module _ (options : Options) (limit : ℕ) (decode : IsOptionName options.decode
         few_formats = omega arith;
       })
 
-  -- the last row of structure
-  last_of_four : (a b c d : List Broken) → a ++ (b ++ (c ++ d)) ≡ [] → d ≡ []
-  last_of_four a b c d h = (both_empty c d (both_empty b (c ++ d) (both_empty a (b ++ (c ++ d)) h).1).1).1
-
-  not_too_many : (scope : Scope) (indent : ℕ) (first name : List ℕ) → structure_rows scope indent first (head.Pattern name) ≡ [] → nat_le MOST_PATTERNS (length scope.patterns) ≡ false
-  not_too_many scope indent first name h =
+  not_too_many : (scope : Scope) (indent : ℕ) (first name : List ℕ) (rest : List (List ℕ)) → structure_rows scope indent first rest (head.Pattern name) ≡ [] → nat_le MOST_PATTERNS (length scope.patterns) ≡ false
+  not_too_many scope indent first name rest h =
       not_broken (nat_le MOST_PATTERNS (length scope.patterns)) (rule.L9, token first)
-      (last_of_four (where_broken (is_not_built (head.Pattern name)) (rule.N2, nothing)) (where_broken (not (indent == 0)) (rule.L1, number indent))
-      (where_broken (is_no_head (head.Pattern name)) (rule.L7, token first)) (where_broken (nat_le MOST_PATTERNS (length scope.patterns)) (rule.L9, token first)) h)
+      (both_empty (indentation_row (length scope.groups) indent) (pattern_row (length scope.patterns) first) h).1
 
-  head_step : (left : ℕ) (scope : Scope) (position : Position) (indent : ℕ) (first : List ℕ) (rest : List (List ℕ)) (hd : Head) → head_of first ≡ hd → IsSoundScope (width_bits options.width) limit (left + 1) scope
-      → head_faults options scope indent first rest hd ≡ [] → IsSoundScope (width_bits options.width) limit left (after_head options scope position first rest hd)
-  head_step left scope position indent first rest head.Group e h none = fewer_left (width_bits options.width) limit (left + 1) left scope (omega arith) h
-  head_step left scope position indent first rest (head.Field name) e h none =
+  not_too_deep : (scope : Scope) (indent : ℕ) (first : List ℕ) (rest : List (List ℕ)) (kind : Kind) → structure_rows scope indent first rest (head.Opens kind) ≡ [] → nat_le MOST_DEPTH (length scope.groups) ≡ false
+  not_too_deep scope indent first rest kind h =
+      not_broken (nat_le MOST_DEPTH (length scope.groups)) (rule.L8, token first)
+      (both_empty (extra_rows rule.L5 rest) _ (both_empty (indentation_row (length scope.groups) indent) (opening_rows (length scope.groups) first rest) h).1).1
+
+  -- a line that opens or closes a group
+  group_step : (left : ℕ) (scope : Scope) (groups : List Opening) (mark : Mark) → IsSoundScope (width_bits options.width) limit (left + 1) scope
+      → marked (mark ∷ []) ≡ [] → AreNested (length scope.groups) (mark ∷ []) → depth_after (length scope.groups) (mark ∷ []) ≡ length groups
+      → IsSoundScope (width_bits options.width) limit left (record scope { groups = groups; marks = scope.marks ++ mark ∷ [] })
+  group_step left scope groups mark h none nested depth =
       let less = fewer_left (width_bits options.width) limit (left + 1) left scope (omega arith) h in
       record {
         few_sets = less.few_sets;
         few_formats = less.few_formats;
-        fields =
-            All-push (λ (f : List ℕ × FieldDef). IsKeptField (width_bits options.width) f.1) scope.fields (line_field (first ∷ rest)) h.fields
-            (line_is_kept (width_bits options.width) scope.fields (first ∷ rest) (field_begins first name e) (both_empty (structure_rows scope indent first (head.Field name)) _ none).1);
+        fields = h.fields;
         sets = h.sets;
         sets_differ = h.sets_differ;
         formats = h.formats;
@@ -530,15 +551,55 @@ module _ (options : Options) (limit : ℕ) (decode : IsOptionName options.decode
         patterns = h.patterns;
         one_set = h.one_set;
         few = h.few;
+        numbers = marked_both scope.marks (mark ∷ []) ∙ ap (λ ns. marked scope.marks ++ ns) none ∙ append-nil (marked scope.marks) ∙ h.numbers;
+        nested = nested_more 0 scope.marks (mark ∷ []) h.nested (subst (λ n. AreNested n (mark ∷ [])) (sym h.depth) nested);
+        depth = depth_more 0 scope.marks (mark ∷ []) ∙ ap (λ n. depth_after n (mark ∷ [])) h.depth ∙ depth;
+      }
+
+  open_step : (left : ℕ) (scope : Scope) (o : Opening) → IsSoundScope (width_bits options.width) limit (left + 1) scope → nat_le MOST_DEPTH (length scope.groups) ≡ false
+      → IsSoundScope (width_bits options.width) limit left (after_opening scope o)
+  open_step left scope o h low =
+      let below : length scope.groups + 1 ≤ MOST_DEPTH = not_full (length scope.groups) MOST_DEPTH low in
+      group_step left scope (scope.groups ++ o ∷ []) (opens o.kind o.file o.line) h refl (omega arith, tt) (sym (length_push scope.groups o))
+
+  close_step : (left : ℕ) (scope : Scope) (kind : Kind) → IsSoundScope (width_bits options.width) limit (left + 1) scope
+      → IsSoundScope (width_bits options.width) limit left (after_closing scope kind)
+  close_step left scope kind h =
+      let fewer : length scope.groups - 1 ≤ length scope.groups = omega arith in
+      group_step left scope (take (length scope.groups - 1) scope.groups) (closes kind) h refl tt (sym (length-take-le (length scope.groups - 1) scope.groups fewer))
+
+  head_step : (left : ℕ) (scope : Scope) (position : Position) (indent : ℕ) (first : List ℕ) (rest : List (List ℕ)) (hd : Head) → head_of first ≡ hd → IsSoundScope (width_bits options.width) limit (left + 1) scope
+      → head_faults options scope indent first rest hd ≡ [] → IsSoundScope (width_bits options.width) limit left (after_head options scope position first rest hd)
+  head_step left scope position indent first rest (head.Opens kind) e h none =
+      open_step left scope (record { kind = kind; file = position.file; line = position.line }) h (not_too_deep scope indent first rest kind (both_empty (structure_rows scope indent first rest (head.Opens kind)) _ none).0)
+  head_step left scope position indent first rest (head.Closes kind) e h none = close_step left scope kind h
+  head_step left scope position indent first rest (head.Field name) e h none =
+      let less = fewer_left (width_bits options.width) limit (left + 1) left scope (omega arith) h in
+      record {
+        few_sets = less.few_sets;
+        few_formats = less.few_formats;
+        fields =
+            All-push (λ (f : List ℕ × FieldDef). IsKeptField (width_bits options.width) f.1) scope.fields (line_field (first ∷ rest)) h.fields
+            (line_is_kept (width_bits options.width) scope.fields (first ∷ rest) (field_begins first name e) (both_empty (structure_rows scope indent first rest (head.Field name)) _ none).1);
+        sets = h.sets;
+        sets_differ = h.sets_differ;
+        formats = h.formats;
+        formats_differ = h.formats_differ;
+        patterns = h.patterns;
+        one_set = h.one_set;
+        few = h.few;
+        numbers = h.numbers;
+        nested = h.nested;
+        depth = h.depth;
       }
   head_step left scope position indent first rest (head.Set name) e h none =
-      set_step left scope (first ∷ rest) h (set_begins first name e) (both_empty (structure_rows scope indent first (head.Set name)) _ none).1
+      set_step left scope (first ∷ rest) h (set_begins first name e) (both_empty (structure_rows scope indent first rest (head.Set name)) _ none).1
   head_step left scope position indent first rest (head.Format name) e h none =
-      let parts = both_empty (structure_rows scope indent first (head.Format name)) (format_faults options scope name rest) none in
+      let parts = both_empty (structure_rows scope indent first rest (head.Format name)) (format_faults options scope name rest) none in
       format_step left scope name rest h (format_is_named first name e) parts.1
   head_step left scope position indent first rest (head.Pattern name) e h none =
-      let parts = both_empty (structure_rows scope indent first (head.Pattern name)) (pattern_faults options scope name rest) none in
-      pattern_step left scope position name rest h (pattern_is_named first name e) (not_too_many scope indent first name parts.0) parts.1
+      let parts = both_empty (structure_rows scope indent first rest (head.Pattern name)) (pattern_faults options scope name rest) none in
+      pattern_step left scope position name rest h (pattern_is_named first name e) (not_too_many scope indent first name rest parts.0) parts.1
   head_step left scope position indent first rest head.None e h none = fewer_left (width_bits options.width) limit (left + 1) left scope (omega arith) h
 
   tokens_step : (left : ℕ) (scope : Scope) (position : Position) (indent : ℕ) (tokens : List (List ℕ)) → IsSoundScope (width_bits options.width) limit (left + 1) scope

@@ -1,5 +1,5 @@
 -- The model of files that break no rule is sound.
-use Rattle.std.proofs.Common.{◌≡◌, ◌≢◌, ℕ, zero, suc, ◌+◌, ◌*◌, ◌^◌, ◌<◌, ◌≤◌, List, [], ◌∷◌, ◌++◌, length, get_or, map, None, refl, ap, ◌∙◌, sym, subst, arith, add-one, bit_and}
+use Rattle.std.proofs.Common.{◌≡◌, ◌≢◌, ℕ, zero, suc, ◌+◌, ◌*◌, ◌^◌, ◌<◌, ◌≤◌, List, [], ◌∷◌, ◌++◌, length, get_or, map, None, refl, ap, ap₂, ◌∙◌, sym, subst, arith, add-one, bit_and}
 use Rattle.std.proofs.lemmas.Nat.{and_le_r}
 use Rattle.std.specs.List.{All, AllPairs}
 use Rattle.std.proofs.lemmas.List.{get_or-map, length-map}
@@ -19,16 +19,20 @@ use Rattle.dt_forms.specs.Models.{Definitions, IsModelOf, definitions_in, defini
 use Rattle.dt_scope.specs.Options.{IsOptionName}
 use Rattle.dt_scope.specs.Patterns.{FlatPattern, position_of}
 use Rattle.dt_forms.specs.Positions.{first_token_at, leading_token}
-use Rattle.dt_forms.specs.Rules.{faults_from, first_fault, scope_before}
+use Rattle.dt_forms.specs.Rules.{faults_of_files, first_fault, scope_before}
 use Rattle.dt_scope.specs.Scope.{Scope, nothing_defined}
-use Rattle.dt_forms.specs.Sound.{AreSoundValues, FormatHasMasks, GivesArguments, HasMasks, HaveOneSet, IsBefore, IsEarlier, IsSound, IsSoundPattern, argument_names, depth, given_names, pattern_position, positions_of}
-use Rattle.dt_forms.specs.Trees.{one, items_from, items_of, numbers_of, numbers_from}
+use Rattle.dt_forms.specs.Sound.{AreSoundValues, FormatHasMasks, GivesArguments, HasMasks, HaveOneSet, IsBefore, IsEarlier, IsSound, IsSoundPattern, pattern_position, positions_of}
+use Rattle.dt_scope.specs.Trees.{items_of, numbers_of, numbers_from}
 use Rattle.dt_forms.specs.View.{pattern_seen}
 use Rattle.dt_forms.proofs.Additions.{IsSoundOf}
-use Rattle.dt_forms.proofs.Entries.{numbers_of_ones}
+use Rattle.dt_forms.proofs.EntryDepths.{at_most_16}
+use Rattle.dt_forms.proofs.EntryNumbers.{marked, numbers_below, numbers_marked}
+use Rattle.dt_forms.proofs.EntryOrder.{entries_rise}
+use Rattle.dt_forms.proofs.EntryPositions.{marked_at, places, positions_marked}
 use Rattle.dt_forms.proofs.Faults.{no_first}
 use Rattle.dt_forms.proofs.LineOrder.{HasFirstToken, IsPlaced, all_found, all_rise, files_few, files_placed}
 use Rattle.dt_forms.proofs.LinePatterns.{IsPatternOn, all_hold, patterns_rise}
+use Rattle.dt_forms.proofs.OpenGroups.{files_kept}
 use Rattle.dt_forms.proofs.SoundLines.{IsSoundScope, lines_sound}
 
 abbrev pub AreShort : List (List ℕ) → Type 0
@@ -40,7 +44,7 @@ pub files_sound : (options : Options) (texts : List (List ℕ)) → IsOptionName
 files_sound options texts decode few short none =
     let lines : length (all_lines texts) ≤ length texts * 2 ^ 32 = files_few 0 texts short in
     let within : length (all_lines texts) ≤ 2 ^ 36 = omega arith in
-    lines_sound options (2 ^ 36) decode (omega arith) (all_lines texts) within (no_first (faults_from options nothing_defined (all_lines texts)) none)
+    lines_sound options (2 ^ 36) decode (omega arith) (all_lines texts) within (files_kept options nothing_defined 0 texts refl (no_first (faults_of_files options nothing_defined 0 texts) none)).0
 
 -- a pattern in one of so many files, on a line with a number that fits in 32 bits
 abbrev IsPlacedPattern : Pattern → Type 0
@@ -98,48 +102,6 @@ names_of_patterns options texts =
     (all_hold options (IsNamedIn texts) (all_lines texts)
     (All-weaker (HasFirstToken texts) (λ (l : FileLine). (p : Pattern) → IsPatternOn l p → IsNamedIn texts p) (named_on texts) (all_lines texts) (all_found texts)))
 
--- patterns alone have no depth
-depth_of_ones : (ns : List ℕ) → depth (items_from (map one ns)) ≡ 0
-depth_of_ones [] = refl
-depth_of_ones (n ∷ ns) = omega (arith, depth_of_ones ns)
-
--- their positions are those of the patterns
-abbrev position_in : List Position → ℕ → Position
-position_in positions n = get_or positions n (record { file = 0; line = 0 })
-
-positions_later : (a : Position) (positions : List Position) (n m : ℕ) → map (position_in (a ∷ positions)) (numbers_from (n + 1) m) ≡ map (position_in positions) (numbers_from n m)
-positions_later a positions n zero = refl
-positions_later a positions n (suc m) =
-    ap (λ k. position_in (a ∷ positions) k ∷ map (position_in (a ∷ positions)) (numbers_from (n + 1 + 1) m)) (add-one n)
-    ∙ ap (λ bs. position_in positions n ∷ bs) (positions_later a positions (n + 1) m)
-
-all_positions : (positions : List Position) → map (position_in positions) (numbers_from 0 (length positions)) ≡ positions
-all_positions [] = refl
-all_positions (a ∷ positions) = ap (λ bs. a ∷ bs) (positions_later a positions 0 (length positions) ∙ all_positions positions)
-
-positions_of_ones : (ps : List Pattern) (ns : List ℕ) → positions_of ps (items_from (map one ns)) ≡ map (position_in (map pattern_position ps)) ns
-positions_of_ones ps [] = refl
-positions_of_ones ps (n ∷ ns) = ap (λ bs. position_in (map pattern_position ps) n ∷ bs) (positions_of_ones ps ns)
-
-positions_of_patterns : (ps : List Pattern) → positions_of ps (items_from (map one (numbers_from 0 (length ps)))) ≡ map pattern_position ps
-positions_of_patterns ps =
-    positions_of_ones ps (numbers_from 0 (length ps))
-    ∙ ap (λ n. map (position_in (map pattern_position ps)) (numbers_from 0 n)) (sym (length-map ps pattern_position))
-    ∙ all_positions (map pattern_position ps)
-
-positions_rise : (ps : List Pattern) → AllPairs IsBefore ps → AllPairs IsEarlier (map pattern_position ps)
-positions_rise [] h i j e before below = absurd (omega arith)
-positions_rise (p ∷ ps) h i j e before below =
-    let count : length (map pattern_position (p ∷ ps)) ≡ length (p ∷ ps) = length-map (p ∷ ps) pattern_position in
-    let here : get_or (map pattern_position (p ∷ ps)) i e ≡ pattern_position (get_or (p ∷ ps) i p) = get_or-map pattern_position (p ∷ ps) i p e (omega arith) in
-    let there : get_or (map pattern_position (p ∷ ps)) j e ≡ pattern_position (get_or (p ∷ ps) j p) = get_or-map pattern_position (p ∷ ps) j p e (omega arith) in
-    let rises : IsEarlier (pattern_position (get_or (p ∷ ps) i p)) (pattern_position (get_or (p ∷ ps) j p)) = h i j p before (omega arith) in
-    subst (λ a. IsEarlier a (get_or (map pattern_position (p ∷ ps)) j e)) (sym here) (subst (λ b. IsEarlier (pattern_position (get_or (p ∷ ps) i p)) b) (sym there) rises)
-
-numbers_below : (n m bound : ℕ) → n + m ≤ bound → All (λ k. k < bound) (numbers_from n m)
-numbers_below n zero bound h = All-nil (λ k. k < bound)
-numbers_below n (suc m) bound h = All-cons (λ k. k < bound) n (numbers_from (n + 1) m) (omega arith) (numbers_below (n + 1) m bound (omega arith))
-
 -- what a decoder is made of, without the groups
 record AreSoundParts (width : ℕ) (d : Definitions) : Type 0 where
   masks : All (HasMasks width) d.patterns
@@ -190,9 +152,14 @@ sound_model options texts model decode few short none h =
     let of_files : AreSoundParts (width_bits options.width) (definitions_in model) = subst (AreSoundParts (width_bits options.width)) (sym h.definitions) (parts_sound options texts decode few short none) in
     let parts : AreSoundParts (width_bits model.width) (definitions_in model) = subst (λ w. AreSoundParts (width_bits w) (definitions_in model)) (sym h.width) of_files in
     let kept : model.patterns ≡ (definitions_of options texts).patterns = ap (λ (d : Definitions). d.patterns) h.definitions in
-    let listed : length (flat_list options texts) ≡ length model.patterns = length-map (definitions_of options texts).patterns pattern_seen ∙ sym (ap length kept) in
-    let once : numbers_of (items_of model.entries) ≡ numbers_from 0 (length model.patterns) = ap numbers_of h.entries ∙ numbers_of_ones (numbers_from 0 (length (flat_list options texts))) ∙ ap (numbers_from 0) listed in
-    let ones : items_of model.entries ≡ items_from (map one (numbers_from 0 (length model.patterns))) = h.entries ∙ ap (λ n. items_from (map one (numbers_from 0 n))) listed in
+    let scope : Scope = scope_before options (all_lines texts) in
+    let sound = files_sound options texts decode few short none in
+    let count : length scope.patterns ≡ length model.patterns = sym (ap length kept) in
+    let once : numbers_of (items_of model.entries) ≡ numbers_from 0 (length model.patterns) =
+    sym (numbers_marked (items_of model.entries)) ∙ ap marked h.entries ∙ sound.numbers ∙ ap (numbers_from 0) count in
+    let rise : AllPairs IsEarlier (marked_at (places scope.patterns) scope.marks) = entries_rise options (all_lines texts) (all_rise texts) in
+    let placed : marked_at (places scope.patterns) scope.marks ≡ positions_of model.patterns (items_of model.entries) =
+    ap₂ (λ ps ms. marked_at (places ps) ms) (sym kept) (sym h.entries) ∙ positions_marked model.patterns (items_of model.entries) in
     record {
       masks = parts.masks;
       format_masks = parts.format_masks;
@@ -202,7 +169,7 @@ sound_model options texts model decode few short none h =
       each_once = once;
       few = parts.few;
       sets_sound = parts.sets_sound;
-      nested = omega (arith, ap depth ones, depth_of_ones (numbers_from 0 (length model.patterns)));
+      nested = at_most_16 (items_of model.entries) scope.marks h.entries sound.nested;
       positions = parts.positions;
       whole_words = parts.whole_words;
       flat_sound = parts.flat_sound;
@@ -213,5 +180,5 @@ sound_model options texts model decode few short none h =
       values = parts.values;
       format_values = parts.format_values;
       pattern_values = parts.pattern_values;
-      entry_positions = subst (λ (bs : List Position). AllPairs IsEarlier bs) (sym (ap (positions_of model.patterns) ones ∙ positions_of_patterns model.patterns)) (positions_rise model.patterns parts.positions);
+      entry_positions = subst (λ (bs : List Position). AllPairs IsEarlier bs) placed rise;
     }

@@ -15,10 +15,14 @@ in_file file l = record { file = file; line = l }
 abbrev pub line_position : FileLine → Position
 line_position l = record { file = l.file; line = l.line.line }
 
--- the logical lines of files, of which the first has this place
+-- the logical lines of the file at this place
+abbrev pub file_lines : ℕ → List ℕ → List FileLine
+file_lines file text = map (in_file file) (logical_lines text)
+
+-- those of files, of which the first has this place
 abbrev pub lines_of_files : ℕ → List (List ℕ) → List FileLine
 lines_of_files file [] = []
-lines_of_files file (text ∷ texts) = map (in_file file) (logical_lines text) ++ lines_of_files (file + 1) texts
+lines_of_files file (text ∷ texts) = file_lines file text ++ lines_of_files (file + 1) texts
 
 -- those of all files, in order of file and line
 abbrev pub all_lines : List (List ℕ) → List FileLine

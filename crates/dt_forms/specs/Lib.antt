@@ -6,9 +6,9 @@ pub mod LineBits
 pub mod LineNames
 pub mod FormatLines
 pub mod PatternLines
+pub mod Structure
 pub mod Rules
 pub mod View
-pub mod Trees
 pub mod Models
 pub mod FileFaults
 pub mod Positions

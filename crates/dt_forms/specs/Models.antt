@@ -9,7 +9,8 @@ use Rattle.dt_forms.specs.FileLines.{all_lines}
 use Rattle.dt_scope.specs.Patterns.{FlatPattern, TrialPattern}
 use Rattle.dt_forms.specs.Rules.{scope_before}
 use Rattle.dt_scope.specs.Scope.{Scope}
-use Rattle.dt_forms.specs.Trees.{items_of, entries_of}
+use Rattle.dt_scope.specs.Marks.{Mark, entries_of, spelled}
+use Rattle.dt_scope.specs.Trees.{Items, items_of}
 use Rattle.dt_forms.specs.View.{pattern_seen, trial_pattern}
 
 -- what a decoder is made of: sets, formats and patterns, each in order of definition
@@ -40,17 +41,24 @@ trial_patterns d = map (trial_pattern d.sets d.formats) d.patterns
 abbrev pub trial_list : Options → List (List ℕ) → List TrialPattern
 trial_list options texts = trial_patterns (definitions_of options texts)
 
--- a model of what lines define, without groups
+-- the lines of files that open and close groups or are patterns, where no line is broken, and the entries that they are
+abbrev pub marks_in_files : Options → List (List ℕ) → List Mark
+marks_in_files options texts = (scope_before options (all_lines texts)).marks
+
+abbrev pub entries_in_files : Options → List (List ℕ) → Items
+entries_in_files options texts = entries_of (marks_in_files options texts)
+
+-- a model of what lines define
 pub record IsModelOfScope (options : Options) (scope : Scope) (model : Model) : Type 0 where
   pub width : model.width ≡ options.width
   pub variable : model.variable ≡ options.variable
   pub definitions : definitions_in model ≡ definitions_in_scope scope
-  pub entries : items_of model.entries ≡ entries_of (map pattern_seen scope.patterns)
+  pub entries : spelled (items_of model.entries) ≡ scope.marks
 
--- a model of these files: its patterns are the flat list, in order
+-- a model of these files: its patterns are the flat list, in order, and its entries are spelled as the lines are
 pub record IsModelOf (options : Options) (texts : List (List ℕ)) (model : Model) : Type 0 where
   pub width : model.width ≡ options.width
   pub variable : model.variable ≡ options.variable
   pub definitions : definitions_in model ≡ definitions_of options texts
   pub flat : map pattern_seen model.patterns ≡ flat_list options texts
-  pub entries : items_of model.entries ≡ entries_of (flat_list options texts)
+  pub entries : spelled (items_of model.entries) ≡ marks_in_files options texts

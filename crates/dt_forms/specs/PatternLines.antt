@@ -14,6 +14,7 @@ use Rattle.dt_forms.specs.declared.infer.Choice.{Choice}
 use Rattle.dt_scope.specs.Bits.{bits_at_top}
 use Rattle.dt_scope.specs.ElementRows.{element_faults}
 use Rattle.dt_scope.specs.Gathering.{gathered, nothing_given}
+use Rattle.dt_scope.specs.Marks.{pattern_mark}
 use Rattle.dt_scope.specs.Patterns.{GivenValues}
 use Rattle.dt_scope.specs.Scope.{Scope}
 use Rattle.dt_forms.specs.Inference.{choice_of, constants_of, fields_of, formats_with, named_format, sets_with}
@@ -76,6 +77,7 @@ scope_with_pattern width scope choice values pattern = record scope {
   sets = sets_with scope.sets values choice.new_set;
   formats = formats_with width scope.formats choice.set (fields_of values) choice.new_format;
   patterns = scope.patterns ++ pattern ∷ [];
+  marks = scope.marks ++ pattern_mark (length scope.patterns) ∷ [];
 }
 
 abbrev pub after_pattern : Options → Scope → Position → List ℕ → List (List ℕ) → Scope

@@ -1,61 +1,31 @@
 -- The rules of the lines of pattern files, mostly as scripts/decodetree.py checks them. The order of the rules is this
--- project's, and so are N2 and L9.
-use Rattle.std.specs.Prelude.{ℕ, ◌==◌, ◌&&◌, nat_le, Bool, true, false, not}
-use Rattle.std.specs.Prelude.{List, [], ◌∷◌, ◌++◌, length, map, Option, Some, None}
+-- project's.
+use Rattle.std.specs.Prelude.{ℕ, ◌+◌, ◌-◌, List, [], ◌∷◌, ◌++◌, length, map, take, Option, Some, None}
 use Rattle.dt_values.specs.Widths.{width_bits}
-use Rattle.dt_lines.specs.Lines.{Line}
+use Rattle.dt_lines.specs.Lines.{Line, logical_lines, physical_lines}
 use Rattle.dt_lines.specs.declared.line.Position.{Position}
 use Rattle.dt_fields.specs.declared.rule.Rule.TheVariants as rule
-use Rattle.dt_fields.specs.Faults.{Broken, where_broken, nothing, token, number, first}
+use Rattle.dt_fields.specs.Faults.{Broken, token, first}
 use Rattle.dt_fields.specs.FieldLines.{field_line_faults, line_field}
 use Rattle.dt_fields.specs.SetLines.{set_line_faults, line_set}
 use Rattle.dt_forms.specs.declared.head.Head.{Head}
 use Rattle.dt_forms.specs.declared.head.Head.TheVariants as head
 use Rattle.dt_scope.specs.declared.options.Options.{Options}
-use Rattle.dt_forms.specs.declared.reader.TheConstants.{MOST_PATTERNS}
-use Rattle.dt_forms.specs.FileLines.{FileLine, all_lines, line_position}
-use Rattle.dt_forms.specs.Heads.{head_of}
+use Rattle.dt_scope.specs.declared.kind.Kind.{Kind}
+use Rattle.dt_scope.specs.declared.kind.Opening.{Opening}
+use Rattle.dt_scope.specs.Groups.{innermost}
+use Rattle.dt_scope.specs.Marks.{opens, closes}
+use Rattle.dt_forms.specs.FileLines.{FileLine, file_lines, line_position}
+use Rattle.dt_forms.specs.Heads.{head_of, opening_text}
 use Rattle.dt_forms.specs.FormatLines.{after_format, format_faults}
 use Rattle.dt_forms.specs.PatternLines.{after_pattern, pattern_faults}
+use Rattle.dt_forms.specs.Structure.{indentation_row, structure_rows}
 use Rattle.dt_scope.specs.Scope.{Scope, nothing_defined, pattern_names}
-
--- N2: a group's mark begins the line
-abbrev pub is_not_built : Head → Bool
-is_not_built head.Group = true
-is_not_built (head.Field name) = false
-is_not_built (head.Set name) = false
-is_not_built (head.Format name) = false
-is_not_built (head.Pattern name) = false
-is_not_built head.None = false
-
-abbrev pub is_no_head : Head → Bool
-is_no_head head.Group = false
-is_no_head (head.Field name) = false
-is_no_head (head.Set name) = false
-is_no_head (head.Format name) = false
-is_no_head (head.Pattern name) = false
-is_no_head head.None = true
-
--- L9: as many patterns as there may be came before
-abbrev pub is_one_too_many : Scope → Head → Bool
-is_one_too_many scope head.Group = false
-is_one_too_many scope (head.Field name) = false
-is_one_too_many scope (head.Set name) = false
-is_one_too_many scope (head.Format name) = false
-is_one_too_many scope (head.Pattern name) = nat_le MOST_PATTERNS (length scope.patterns)
-is_one_too_many scope head.None = false
-
--- the rules of structure; no group can be open
-abbrev pub structure_rows : Scope → ℕ → List ℕ → Head → List Broken
-structure_rows scope indent first h =
-    where_broken (is_not_built h) (rule.N2, nothing)
-    ++ (where_broken (not (indent == 0)) (rule.L1, number indent)
-    ++ (where_broken (is_no_head h) (rule.L7, token first)
-    ++ where_broken (is_one_too_many scope h) (rule.L9, token first)))
 
 -- the rules of what a line defines
 abbrev pub definition_faults : Options → Scope → List ℕ → List (List ℕ) → Head → List Broken
-definition_faults options scope first rest head.Group = []
+definition_faults options scope first rest (head.Opens kind) = []
+definition_faults options scope first rest (head.Closes kind) = []
 definition_faults options scope first rest (head.Field name) =
     field_line_faults (width_bits options.width) scope.fields (first ∷ rest)
 definition_faults options scope first rest (head.Set name) =
@@ -66,11 +36,11 @@ definition_faults options scope first rest head.None = []
 
 abbrev pub head_faults : Options → Scope → ℕ → List ℕ → List (List ℕ) → Head → List Broken
 head_faults options scope indent first rest h =
-    structure_rows scope indent first h ++ definition_faults options scope first rest h
+    structure_rows scope indent first rest h ++ definition_faults options scope first rest h
 
 -- the rules that a line with these tokens breaks, in order; a line without tokens has L1 alone
 abbrev pub faults_in : Options → Scope → ℕ → List (List ℕ) → List Broken
-faults_in options scope indent [] = where_broken (not (indent == 0)) (rule.L1, number indent)
+faults_in options scope indent [] = indentation_row (length scope.groups) indent
 faults_in options scope indent (first ∷ rest) = head_faults options scope indent first rest (head_of first)
 
 -- those of a line, which sees what the lines before it define
@@ -78,8 +48,22 @@ abbrev pub faults_of_line : Options → Scope → Line → List Broken
 faults_of_line options scope l = faults_in options scope l.indent l.tokens
 
 -- what a line adds
+abbrev pub after_opening : Scope → Opening → Scope
+after_opening scope o = record scope {
+  groups = scope.groups ++ o ∷ [];
+  marks = scope.marks ++ opens o.kind o.file o.line ∷ [];
+}
+
+abbrev pub after_closing : Scope → Kind → Scope
+after_closing scope kind = record scope {
+  groups = take (length scope.groups - 1) scope.groups;
+  marks = scope.marks ++ closes kind ∷ [];
+}
+
 abbrev pub after_head : Options → Scope → Position → List ℕ → List (List ℕ) → Head → Scope
-after_head options scope position first rest head.Group = scope
+after_head options scope position first rest (head.Opens kind) =
+    after_opening scope (record { kind = kind; file = position.file; line = position.line })
+after_head options scope position first rest (head.Closes kind) = after_closing scope kind
 after_head options scope position first rest (head.Field name) =
     record scope { fields = scope.fields ++ line_field (first ∷ rest) ∷ [] }
 after_head options scope position first rest (head.Set name) =
@@ -119,6 +103,35 @@ faults_from options scope [] = []
 faults_from options scope (l ∷ ls) =
     map (fault_on l) (faults_of_line options scope l.line) ++ faults_from options (after_line options scope l) ls
 
+-- L6 on the last physical line of a file where a group is open at its end: the opening token of the innermost one
+abbrev pub unclosed_fault : ℕ → List ℕ → Opening → Fault
+unclosed_fault file text o = record {
+  file = file;
+  line = length (physical_lines text);
+  broken = (rule.L6, token (opening_text o.kind));
+}
+
+abbrev pub unclosed_faults : ℕ → List ℕ → Option Opening → List Fault
+unclosed_faults file text None = []
+unclosed_faults file text (Some o) = unclosed_fault file text o ∷ []
+
+-- the faults of the file at this place, whose lines see this scope: those of its lines, and then of its end
+abbrev pub faults_of_file : Options → Scope → ℕ → List ℕ → List Fault
+faults_of_file options scope file text =
+    faults_from options scope (file_lines file text)
+    ++ unclosed_faults file text (innermost (after_lines options scope (file_lines file text)).groups)
+
+-- each file begins with no open group
+abbrev pub begun : Scope → Scope
+begun scope = record scope { groups = [] }
+
+-- the faults of files, of which the first has this place, in order of file, line and rule
+abbrev pub faults_of_files : Options → Scope → ℕ → List (List ℕ) → List Fault
+faults_of_files options scope file [] = []
+faults_of_files options scope file (text ∷ texts) =
+    faults_of_file options (begun scope) file text
+    ++ faults_of_files options (after_lines options (begun scope) (file_lines file text)) (file + 1) texts
+
 -- the first rule of the least line that breaks one, in files of which the first has place 0
 abbrev pub first_fault : Options → List (List ℕ) → Option Fault
-first_fault options texts = first (faults_from options nothing_defined (all_lines texts))
+first_fault options texts = first (faults_of_files options nothing_defined 0 texts)

@@ -18,8 +18,8 @@ use Rattle.dt_fields.specs.SoundFields.{IsSoundField}
 use Rattle.dt_fields.specs.SoundSets.{IsSoundSet}
 use Rattle.dt_forms.specs.LineNames.{set_number}
 use Rattle.dt_scope.specs.Patterns.{FlatPattern, GivenValues, position_of}
-use Rattle.dt_forms.specs.Trees.{Item, one, overlap, exclusive, Cluster, cluster, Items, no_item, item}
-use Rattle.dt_forms.specs.Trees.{items_of, numbers_of, numbers_from}
+use Rattle.dt_scope.specs.Trees.{Item, one, overlap, exclusive, Cluster, cluster, Items, no_item, item}
+use Rattle.dt_scope.specs.Trees.{depth, items_of, numbers_of, numbers_from}
 use Rattle.dt_forms.specs.View.{given_values, members_of_pattern, pattern_seen}
 
 -- fixed and ignored masks of words of so many bits: they share no bit, and what is fixed lies in its mask
@@ -62,21 +62,6 @@ abbrev mutual
   pub positions_of : List Pattern → Items → List Position
   positions_of patterns no_item = []
   positions_of patterns (item i is) = item_positions patterns i ++ positions_of patterns is
-
--- how deep groups nest: a pattern has no depth, a group one more than the entries in it, and entries that of the
--- deepest
-abbrev mutual
-  pub item_depth : Item → ℕ
-  item_depth (one n) = 0
-  item_depth (overlap c) = cluster_depth c
-  item_depth (exclusive c) = cluster_depth c
-
-  pub cluster_depth : Cluster → ℕ
-  cluster_depth (cluster file line is) = depth is + 1
-
-  pub depth : Items → ℕ
-  depth no_item = 0
-  depth (item i is) = max (item_depth i) (depth is)
 
 -- the names of the arguments of a pattern's set
 abbrev pub argument_names : List SetDef → List Format → Pattern → List (List ℕ)

@@ -1,15 +1,18 @@
 //! What the first token of a line says of it.
 
 ghost use Rattle.std.specs.Prelude.{◌≡◌};
-ghost use Rattle.dt_forms.specs.Heads.{head_of, is_group_mark, marked_head, named_head};
+ghost use Rattle.dt_forms.specs.Heads.{head_of, marked_head, named_head};
 
+use dt_scope::Kind;
 use dt_values::Name;
 
-/// What a line is by its first token. A line of a group isn't read yet.
+/// What a line is by its first token.
 #[derive(Clone, Copy, Debug, PartialEq, Eq)]
 pub enum Head {
-    /// A brace or a bracket alone.
-    Group,
+    /// `{` or `[`.
+    Opens(Kind),
+    /// `}` or `]`.
+    Closes(Kind),
     /// `%` and a name.
     Field(Name),
     /// `&` and a name.
@@ -26,20 +29,19 @@ pub enum Head {
 pub fn head_of(text: &[u8]) -> Head
     ensures { result ≡ head_of text.now }
 {
-    if is_group_mark(text) {
-        return Head::Group;
+    if text == b"{".as_slice() {
+        return Head::Opens(Kind::Brace);
+    }
+    if text == b"}".as_slice() {
+        return Head::Closes(Kind::Brace);
+    }
+    if text == b"[".as_slice() {
+        return Head::Opens(Kind::Bracket);
+    }
+    if text == b"]".as_slice() {
+        return Head::Closes(Kind::Bracket);
     }
     named_head(text)
-}
-
-// Whether the token is a brace or a bracket.
-fn is_group_mark(token: &[u8]) -> bool
-    ensures { result ≡ is_group_mark token.now }
-{
-    token == b"{".as_slice()
-        || token == b"}".as_slice()
-        || token == b"[".as_slice()
-        || token == b"]".as_slice()
 }
 
 fn named_head(text: &[u8]) -> Head

@@ -7,10 +7,10 @@ ghost use Rattle.dt_scope.specs.declared.options.Options.{Options};
 ghost use Rattle.dt_forms.specs.declared.reader.TheConstants.{MOST_FILES};
 ghost use Rattle.dt_forms.specs.FileFaults.{HaveNoFileFault, file_fault, first_broken};
 ghost use Rattle.dt_forms.specs.Inference.{same_field};
-ghost use Rattle.dt_forms.specs.Models.{flat_list};
+ghost use Rattle.dt_forms.specs.Models.{flat_list, marks_in_files};
 ghost use Rattle.dt_scope.specs.Options.{IsOptionName};
 ghost use Rattle.dt_scope.specs.Patterns.{position_of};
-ghost use Rattle.dt_forms.specs.Positions.{first_token_at};
+ghost use Rattle.dt_forms.specs.Positions.{OpensWith, first_token_at};
 ghost use Rattle.dt_forms.specs.Rules.{Fault, first_fault};
 ghost use Rattle.dt_forms.specs.Sound.{IsSoundPattern};
 
@@ -25,6 +25,11 @@ pub fn law_flat_list_is_sound()
 pub fn law_first_token_is_the_name()
     ensures { (options : Options) (texts : List (List ℕ))
         → All (λ p. first_token_at texts (position_of p) ≡ p.name) (flat_list options texts) }
+{}
+
+/// The first token at the position of a group is what opens it.
+pub fn law_first_token_opens_the_group()
+    ensures { (options : Options) (texts : List (List ℕ)) → All (OpensWith texts) (marks_in_files options texts) }
 {}
 
 /// Where no file has too many lines or a long name, files break first what their lines do; else what the first such

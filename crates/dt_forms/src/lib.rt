@@ -1,7 +1,6 @@
 //! Models of pattern files: what the lines define, and the rules that they keep.
 #![tactic(auto)]
 
-pub mod entry;
 pub mod fault;
 mod format_line;
 mod head;
@@ -18,13 +17,16 @@ pub mod position;
 pub mod reader;
 mod same_field;
 pub mod source;
+mod structure;
 
-pub use dt_scope::{FieldValue, Format, FormatList, Options, Pattern, PatternList, ValueList};
-pub use entry::{Entry, EntryList, Group};
+pub use dt_scope::{
+    Entry, EntryList, FieldValue, Format, FormatList, Group, Kind, Options, Pattern, PatternList,
+    ValueList,
+};
 pub use fault::{Fault, ModelFault};
 pub use model::{Model, SetList};
 pub use position::first_token;
-pub use reader::{MOST_FILES, MOST_PATTERNS, read_model};
+pub use reader::{MOST_DEPTH, MOST_FILES, MOST_PATTERNS, read_model};
 pub use source::{ByteList, LineList, Source};
 
 #[cfg(test)]

@@ -1,8 +1,7 @@
 //! The model of pattern files.
 
-use crate::entry::EntryList;
 use dt_fields::SetDef;
-use dt_scope::form::{FormatList, PatternList};
+use dt_scope::{EntryList, FormatList, PatternList};
 use dt_values::{Items, Width};
 
 /// Argument sets in order of definition. Contracts see the list of them.

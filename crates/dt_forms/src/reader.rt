@@ -1,37 +1,43 @@
 //! Reads pattern files.
 
-ghost use Rattle.std.specs.Prelude.{◌≡◌, ◌==◌, ◌<◌, ◌≤◌, ◌∷◌, ℕ, List, [], Option, length, map, not, All, IfErr, IfOk, OnOk, None};
+ghost use Rattle.std.specs.Prelude.{◌≡◌, ◌<◌, ◌≤◌, ◌∷◌, [], length, map, All, IfErr, IfOk, OnOk, None, Some};
 ghost use Rattle.std.specs.List.{list_any};
 ghost use Rattle.dt_lines.specs.Lines.{logical_lines};
 ghost use Rattle.dt_lines.specs.Spans.{AreSpans, IsWithin, line_seen, text_at};
-ghost use Rattle.dt_fields.specs.Faults.{first, number, where_broken};
-ghost use Rattle.dt_fields.specs.declared.rule.Rule.TheVariants as rule;
-ghost use Rattle.dt_fields.specs.View.{DefBroken};
-ghost use Rattle.dt_forms.specs.FileLines.{all_lines, in_file};
-ghost use Rattle.dt_forms.specs.Heads.{head_of};
+ghost use Rattle.dt_fields.specs.Faults.{first, token};
+ghost use Rattle.dt_fields.specs.View.{DefBroken, IsDetailWithin, detail_seen};
+ghost use Rattle.dt_forms.specs.FileLines.{all_lines, file_lines, in_file};
+ghost use Rattle.dt_forms.specs.Heads.{head_of, opening_text};
 ghost use Rattle.dt_forms.specs.Models.{IsModelOf, IsModelOfScope};
+ghost use Rattle.dt_scope.specs.Groups.{innermost, innermost_kind};
 ghost use Rattle.dt_scope.specs.Options.{IsOptions};
-ghost use Rattle.dt_forms.specs.Rules.{after_head, after_line, after_lines, definition_faults, faults_from, faults_of_line};
-ghost use Rattle.dt_forms.specs.Rules.{first_fault, head_faults, is_not_built, is_one_too_many, scope_before};
-ghost use Rattle.dt_forms.specs.Rules.{structure_rows};
+ghost use Rattle.dt_forms.specs.Rules.{after_closing, after_head, after_line, after_lines, after_opening};
+ghost use Rattle.dt_forms.specs.Rules.{definition_faults, faults_from, faults_of_file, faults_of_line, first_fault};
+ghost use Rattle.dt_forms.specs.Rules.{head_faults, scope_before, unclosed_fault, unclosed_faults};
+ghost use Rattle.dt_forms.specs.Structure.{structure_rows};
+ghost use Rattle.dt_forms.specs.Positions.{IsFoundOpening};
 ghost use Rattle.dt_forms.specs.Sound.{IsSound};
 ghost use Rattle.dt_forms.specs.Sources.{AreSources, IsSourceAt};
 ghost use Rattle.dt_forms.specs.View.{FileBroken, ModelBroken, fault_at, texts_of};
 
-use crate::entry::{EntryList, entries_of};
 use crate::fault::{Fault, ModelFault};
 use crate::format_line::add_format_line;
 use crate::head::{Head, head_of};
 use crate::model::{Model, SetList};
 use crate::pattern_line::add_pattern_line;
+use crate::position::span_of_line;
 use crate::source::Source;
-use dt_fields::{DefFault, Detail, Rule, refuse};
+use crate::structure::{check_indentation, check_structure};
+use dt_fields::{DefFault, Detail, Rule};
 use dt_lines::{Logical, Position, Span};
-use dt_scope::{FormatList, Options, PatternList, Scope};
+use dt_scope::{EntryList, FormatList, Kind, Opening, Options, PatternList, Scope};
 use std::alloc::{AllocError, Global};
 
 /// The most patterns that all files may have.
 pub const MOST_PATTERNS: usize = 8192;
+
+/// The most groups that stand inside one another.
+pub const MOST_DEPTH: usize = 16;
 
 /// The most files of one decoder.
 pub const MOST_FILES: usize = 16;
@@ -57,16 +63,16 @@ pub fn read_model(alloc: Global, options: &Options, files: &[Source]) -> Result<
 
 // The model of what lines define.
 fn model_of(alloc: Global, options: &Options, scope: Scope) -> Result<Model, AllocError>
-    requires { length scope.patterns ≤ MOST_PATTERNS }
+    requires { scope.groups ≡ [] }
     ensures { IfOk result (IsModelOfScope options.now scope) }
 {
-    let (sets, formats, patterns) = scope.into_parts(alloc)?;
+    let (sets, formats, patterns, entries) = scope.into_parts(alloc)?;
     Ok(Model {
         width: options.width,
         variable: options.variable,
         sets: SetList::of(sets),
         formats: FormatList::of(formats),
-        entries: EntryList::of(entries_of(alloc, patterns.len() as u32)?),
+        entries: EntryList::of(entries),
         patterns: PatternList::of(patterns),
     })
 }
@@ -78,6 +84,7 @@ fn read_files(alloc: Global, options: &Options, files: &[Source]) -> Result<Scop
     requires few { length files.now ≤ MOST_FILES }
     requires sources { AreSources files.now }
     ensures scope { IfOk result (λ scope. scope ≡ scope_before options.now (all_lines (texts_of files.now))) }
+    ensures closed { IfOk result (λ scope. scope.groups ≡ []) }
     ensures kept { OnOk result (first_fault options.now (texts_of files.now) ≡ None) }
     ensures broken { IfErr result (λ fault.
         ModelBroken files.now fault (first_fault options.now (texts_of files.now))) }
@@ -92,7 +99,8 @@ fn read_files(alloc: Global, options: &Options, files: &[Source]) -> Result<Scop
     Ok(scope)
 }
 
-// Reads the lines of a file.
+// Reads a file, which begins with no open group.
+#[tactic(auto, using(crate::proofs::Faults::first_prefix))]
 fn read_file(
     alloc: Global,
     options: &Options,
@@ -102,21 +110,64 @@ fn read_file(
 ) -> Result<(), ModelFault>
     requires options { IsOptions options.now }
     requires source { IsSourceAt file source.now }
-    ensures after { OnOk result (scope.new
-        ≡ after_lines options.now scope.old (map (in_file file) (logical_lines source.now.bytes))) }
-    ensures kept { OnOk result (faults_from options.now scope.old
-        (map (in_file file) (logical_lines source.now.bytes)) ≡ []) }
+    requires closed { scope.old.groups ≡ [] }
+    ensures after { OnOk result (scope.new ≡ after_lines options.now scope.old (file_lines file source.now.bytes)) }
+    ensures kept { OnOk result (faults_of_file options.now scope.old file source.now.bytes ≡ []) }
     ensures broken { IfErr result (λ fault. FileBroken source.now.bytes file fault
-        (first (faults_from options.now scope.old (map (in_file file) (logical_lines source.now.bytes))))) }
+        (first (faults_of_file options.now scope.old file source.now.bytes))) }
 {
-    read_lines(
+    match read_lines(
         alloc,
         options,
         file,
         source.bytes.items(),
         source.lines.items(),
         scope,
-    )
+    ) {
+        Ok(()) => check_closed(file, source, scope),
+        Err(fault) => Err(fault),
+    }
+}
+
+// Refuses a file at whose end a group is open.
+fn check_closed(file: u16, source: &Source, scope: &Scope) -> Result<(), ModelFault>
+    requires source { IsSourceAt file source.now }
+    requires found { All (IsFoundOpening source.now.bytes) scope.now.groups }
+    ensures kept { OnOk result (unclosed_faults file source.now.bytes (innermost scope.now.groups) ≡ []) }
+    ensures broken { IfErr result (λ fault. FileBroken source.now.bytes file fault
+        (first (unclosed_faults file source.now.bytes (innermost scope.now.groups)))) }
+{
+    match scope.innermost() {
+        None => Ok(()),
+        Some(opening) => Err(unclosed(file, source, opening)),
+    }
+}
+
+// The fault of a file at whose end this group is the innermost open one.
+fn unclosed(file: u16, source: &Source, opening: Opening) -> ModelFault
+    requires source { IsSourceAt file source.now }
+    requires found { IsFoundOpening source.now.bytes opening }
+    ensures { FileBroken source.now.bytes file result (Some (unclosed_fault file source.now.bytes opening)) }
+{
+    ModelFault::Broken(Fault {
+        file,
+        line: source.last_line,
+        rule: Rule::L6,
+        detail: opening_detail(file, source, opening),
+    })
+}
+
+// The token that opens a group, as a detail.
+fn opening_detail(file: u16, source: &Source, opening: Opening) -> Detail
+    requires source { IsSourceAt file source.now }
+    requires found { IsFoundOpening source.now.bytes opening }
+    ensures seen { detail_seen source.now.bytes result ≡ token (opening_text opening.kind) }
+    ensures within { IsDetailWithin source.now.bytes result }
+{
+    match span_of_line(source.bytes.items(), source.lines.items(), opening.line) {
+        Some(span) => Detail::Text(span),
+        None => Detail::None,
+    }
 }
 
 // Reads lines of a file.
@@ -180,7 +231,7 @@ fn read_line(
 {
     let tokens = line.tokens.items();
     if tokens.is_empty() {
-        return check_indentation(line.indent);
+        return check_indentation(scope.depth(), line.indent, source);
     }
     let (first, rest) = split_line(tokens);
     read_tokens(alloc, options, file, source, line, first, rest, scope)
@@ -193,15 +244,6 @@ fn split_line(tokens: &[Span]) -> (Span, &[Span])
 {
     let (first, rest) = tokens.split_first().unwrap();
     (*first, rest)
-}
-
-// Refuses a line that is indented: no group can be open.
-fn check_indentation(indent: u32) -> Result<(), DefFault>
-    ensures kept { OnOk result (where_broken (not (indent == 0)) (rule.L1, number indent) ≡ []) }
-    ensures broken { (source : List ℕ) → IfErr result (λ fault. DefBroken source fault
-        (where_broken (not (indent == 0)) (rule.L1, number indent))) }
-{
-    refuse(indent != 0, Rule::L1, Detail::Number(indent as u64))
 }
 
 // Reads a line whose tokens are a first one and the rest.
@@ -231,50 +273,29 @@ fn read_tokens(
         (head_of (text_at source.now first)))) }
 {
     let head = head_of(first.text(source));
-    match check_structure(scope, line.indent, source, first, head) {
+    match check_structure(scope, line.indent, source, first, rest, head) {
         Ok(()) => add_definition(alloc, options, file, source, line, first, rest, scope),
         Err(fault) => Err(fault),
     }
 }
 
-// Refuses a line that breaks a rule of structure.
-fn check_structure(
-    scope: &Scope,
-    indent: u32,
-    source: &[u8],
-    first: Span,
-    head: Head,
-) -> Result<(), DefFault>
-    requires { IsWithin (length source.now) first }
-    ensures kept { OnOk result (structure_rows scope.now indent (text_at source.now first) head ≡ []) }
-    ensures broken { IfErr result (λ fault. DefBroken source.now fault
-        (structure_rows scope.now indent (text_at source.now first) head)) }
+// Opens a group.
+fn open_group(alloc: Global, scope: &mut Scope, opening: Opening) -> Result<(), DefFault>
+    ensures after { OnOk result (scope.new ≡ after_opening scope.old opening) }
+    ensures memory { IfErr result (λ fault. fault ≡ DefFault.NoMemory) }
 {
-    refuse(is_not_built(head), Rule::N2, Detail::None)?;
-    refuse(indent != 0, Rule::L1, Detail::Number(indent as u64))?;
-    refuse(head == Head::None, Rule::L7, Detail::Text(first))?;
-    refuse(is_one_too_many(scope, head), Rule::L9, Detail::Text(first))?;
+    scope.open_group(alloc, opening)?;
     Ok(())
 }
 
-// Whether a line with this head isn't built.
-fn is_not_built(head: Head) -> bool
-    ensures { result ≡ is_not_built head }
+// Closes the innermost group, which is of this kind.
+fn close_group(scope: &mut Scope, kind: Kind) -> Result<(), DefFault>
+    requires { innermost_kind scope.old.groups ≡ Some kind }
+    ensures after { OnOk result (scope.new ≡ after_closing scope.old kind) }
+    ensures memory { IfErr result (λ fault. fault ≡ DefFault.NoMemory) }
 {
-    match head {
-        Head::Group => true,
-        Head::Field(_) | Head::Set(_) | Head::Format(_) | Head::Pattern(_) | Head::None => false,
-    }
-}
-
-// Whether a pattern would be one more than there may be.
-fn is_one_too_many(scope: &Scope, head: Head) -> bool
-    ensures { result ≡ is_one_too_many scope.now head }
-{
-    match head {
-        Head::Pattern(_) => scope.patterns().items().len() >= MOST_PATTERNS,
-        _ => false,
-    }
+    scope.close_group(kind)?;
+    Ok(())
 }
 
 // Adds what a line with this head defines.
@@ -294,6 +315,8 @@ fn add_definition(
     requires first { IsWithin (length source.now) first }
     requires rest { All (IsWithin (length source.now)) rest.now }
     requires tokens { line.now.tokens ≡ first ∷ rest.now }
+    requires structure { structure_rows scope.old line.now.indent (text_at source.now first)
+        (map (text_at source.now) rest.now) (head_of (text_at source.now first)) ≡ [] }
     ensures after { OnOk result (scope.new ≡ after_head options.now scope.old
         (record { file = file; line = line.now.line }) (text_at source.now first) (map (text_at source.now) rest.now)
         (head_of (text_at source.now first))) }
@@ -303,6 +326,15 @@ fn add_definition(
         (text_at source.now first) (map (text_at source.now) rest.now) (head_of (text_at source.now first)))) }
 {
     match head_of(first.text(source)) {
+        Head::Opens(kind) => {
+            let opening = Opening {
+                kind,
+                file,
+                line: line.line,
+            };
+            open_group(alloc, scope, opening)
+        }
+        Head::Closes(kind) => close_group(scope, kind),
         Head::Field(_) => scope.add_field(alloc, options.width, source, line),
         Head::Set(_) => scope.add_set(alloc, source, line),
         Head::Format(name) => add_format_line(alloc, options, scope, source, name, rest),
@@ -313,6 +345,6 @@ fn add_definition(
             };
             add_pattern_line(alloc, options, scope, source, position, name, rest)
         }
-        Head::Group | Head::None => Ok(()),
+        Head::None => Ok(()),
     }
 }

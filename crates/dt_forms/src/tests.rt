@@ -2,6 +2,7 @@
 
 mod arguments;
 mod formats;
+mod groups;
 
 ghost use Rattle.std.specs.Prelude.{◌≡◌, ◌+◌, ◌≤◌, length, vec_len, IfOk, OnOk};
 ghost use Rattle.dt_scope.specs.Options.{IsOptions};
@@ -174,15 +175,6 @@ fn words_of_32_bits(rt: HostRuntime) -> Result<(), Fail> {
     ];
     for (bytes, expected) in table {
         assert!(rt; is_fault(rt.alloc(), Width::W32, bytes, expected)?);
-    }
-    Ok(())
-}
-
-#[test]
-fn lines_that_are_not_built(rt: HostRuntime) -> Result<(), Fail> {
-    let table: [&[u8]; 5] = [b"}", b"{", b"[ 0x", b" ]", b"\t{ @"];
-    for bytes in table {
-        assert!(rt; is_fault(rt.alloc(), Width::W16, bytes, (1, Rule::N2, Detail::None))?);
     }
     Ok(())
 }

@@ -4,3 +4,4 @@ pub mod PatternDigits
 pub mod PatternNames
 pub mod Gathering
 pub mod Fits
+pub mod Spelling

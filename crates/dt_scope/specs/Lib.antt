@@ -3,6 +3,9 @@ pub mod Bits
 pub mod Patterns
 pub mod FormatsByName
 pub mod Names
+pub mod Trees
+pub mod Marks
+pub mod Groups
 pub mod Scope
 pub mod Fitting
 pub mod Elements

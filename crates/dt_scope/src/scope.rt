@@ -1,6 +1,6 @@
 //! What the lines read so far define.
 
-ghost use Rattle.std.specs.Prelude.{◌≡◌, ◌++◌, ◌∷◌, [], ℕ, List, None, Some, length, map, IsTrue, IfErr, IfOk, IfSome, OnOk};
+ghost use Rattle.std.specs.Prelude.{◌≡◌, ◌++◌, ◌∷◌, ◌-◌, [], ℕ, take, List, None, Some, length, map, IsTrue, IfErr, IfOk, IfSome, OnOk};
 ghost use Rattle.std.specs.Option.{option_copied};
 ghost use Rattle.dt_values.specs.Widths.{width_bits};
 ghost use Rattle.dt_lines.specs.Spans.{AreSpans, text_at};
@@ -12,10 +12,16 @@ ghost use Rattle.dt_fields.specs.Tables.{entry_at};
 ghost use Rattle.dt_fields.specs.View.{DefBroken};
 ghost use Rattle.dt_scope.specs.Fitting.{FieldFits, FormatsFit, ValuesFit};
 ghost use Rattle.dt_scope.specs.FormatsByName.{format_at};
+ghost use Rattle.dt_scope.specs.Groups.{innermost, innermost_kind};
+ghost use Rattle.dt_scope.specs.Marks.{closes, opens, pattern_mark, spelled};
 ghost use Rattle.dt_scope.specs.Scope.{nothing_defined, pattern_names};
+ghost use Rattle.dt_scope.specs.Trees.{items_of};
 
+use crate::entry::Entry;
 use crate::form::{Format, Pattern};
 use crate::formats::Formats;
+use crate::groups::Groups;
+use crate::kind::{Kind, Opening};
 use crate::patterns::Patterns;
 use dt_fields::{DefFault, FieldDef, Fields, SetDef, Sets, args_line, field_line};
 use dt_lines::Logical;
@@ -31,15 +37,24 @@ pub struct Scope {
     sets: Sets,
     formats: Formats,
     patterns: Patterns,
+    groups: Groups,
 }
 
 impl Model for Scope {
     ghost use Rattle.dt_scope.specs.Fitting.{FieldsFit, FormatsFit};
+    ghost use Rattle.dt_scope.specs.Groups.{openings_of, spelled_so_far};
     ghost use Rattle.dt_scope.specs.Scope.{Scope as Seen};
 
     ghost Value = { Seen };
 
-    ghost view = { λ s. record { fields = s.fields; sets = s.sets; formats = s.formats; patterns = s.patterns } };
+    ghost view = { λ s. record {
+      fields = s.fields;
+      sets = s.sets;
+      formats = s.formats;
+      patterns = s.patterns;
+      groups = openings_of s.groups;
+      marks = spelled_so_far s.groups;
+    } };
 
     ghost invariant = { λ s. FieldsFit s.fields × FormatsFit s.formats };
 }
@@ -54,6 +69,7 @@ impl Scope {
             sets: Sets::new(alloc),
             formats: Formats::new(alloc),
             patterns: Patterns::new(alloc),
+            groups: Groups::new(alloc),
         }
     }
 
@@ -141,23 +157,74 @@ impl Scope {
         self.formats.add(format)
     }
 
-    /// Adds a pattern.
-    pub fn push_pattern(&mut self, pattern: Pattern) -> Result<(), AllocError>
-        ensures { OnOk result (self.new ≡ record self.old { patterns = self.old.patterns ++ pattern ∷ [] }) }
+    /// How many groups are open.
+    pub fn depth(&self) -> usize
+        ensures { result ≡ length self.now.groups }
     {
-        self.patterns.push(pattern)
+        self.groups.depth()
     }
 
-    /// The sets, the formats and the patterns as lists of their own.
+    /// The innermost open group.
+    pub fn innermost(&self) -> Option<Opening>
+        ensures { result ≡ innermost self.now.groups }
+    {
+        self.groups.innermost()
+    }
+
+    /// Opens a group.
+    pub fn open_group(&mut self, alloc: Global, opening: Opening) -> Result<(), AllocError>
+        ensures { OnOk result (self.new ≡ record self.old {
+          groups = self.old.groups ++ opening ∷ [];
+          marks = self.old.marks ++ opens opening.kind opening.file opening.line ∷ [];
+        }) }
+    {
+        self.groups.open(alloc, opening)
+    }
+
+    /// Closes the innermost group, which is of this kind.
+    pub fn close_group(&mut self, kind: Kind) -> Result<(), AllocError>
+        requires { innermost_kind self.old.groups ≡ Some kind }
+        ensures { OnOk result (self.new ≡ record self.old {
+          groups = take (length self.old.groups - 1) self.old.groups;
+          marks = self.old.marks ++ closes kind ∷ [];
+        }) }
+    {
+        self.groups.close(kind)
+    }
+
+    /// Adds a pattern, as an entry of the innermost open group too. A number that doesn't fit in 32 bits finds no memory:
+    /// so many patterns would fill it many times over.
+    pub fn push_pattern(&mut self, pattern: Pattern) -> Result<(), AllocError>
+        ensures { OnOk result (self.new ≡ record self.old {
+          patterns = self.old.patterns ++ pattern ∷ [];
+          marks = self.old.marks ++ pattern_mark (length self.old.patterns) ∷ [];
+        }) }
+    {
+        let number = self.patterns.items().len();
+        if number > u32::MAX as usize {
+            return Err(AllocError);
+        }
+        self.patterns.push(pattern)?;
+        self.groups.add(number as u32)
+    }
+
+    /// The sets, the formats, the patterns and the entries as lists of their own, where no group is open.
     pub fn into_parts(
         self,
         alloc: Global,
-    ) -> Result<(Vec<SetDef>, Vec<Format>, Vec<Pattern>), AllocError>
-        ensures { IfOk result (λ parts. (parts.0.items ≡ self.sets) × (parts.1.items ≡ self.formats)
+    ) -> Result<(Vec<SetDef>, Vec<Format>, Vec<Pattern>, Vec<Entry>), AllocError>
+        requires { self.groups ≡ [] }
+        ensures definitions { IfOk result (λ parts. (parts.0.items ≡ self.sets) × (parts.1.items ≡ self.formats)
             × (parts.2.items ≡ self.patterns)) }
+        ensures entries { IfOk result (λ parts. spelled (items_of parts.3.items) ≡ self.marks) }
     {
         let sets = self.sets.into_items(alloc)?;
         let formats = self.formats.into_items(alloc)?;
-        Ok((sets, formats, self.patterns.into_items()))
+        Ok((
+            sets,
+            formats,
+            self.patterns.into_items(),
+            self.groups.into_entries(),
+        ))
     }
 }

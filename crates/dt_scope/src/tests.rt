@@ -217,7 +217,7 @@ fn patterns_and_their_names_stand_in_order(rt: HostRuntime) -> Result<(), Fail> 
     for pattern in patterns.into_items() {
         scope.push_pattern(pattern)?;
     }
-    let (sets, formats, patterns) = scope.into_parts(rt.alloc())?;
+    let (sets, formats, patterns, entries) = scope.into_parts(rt.alloc())?;
     assert_eq!(rt; (sets.len(), formats.len(), patterns.len()), (1, 1, 3));
     assert_eq!(rt; (patterns[1].name, patterns[2].line), (q, 3));
     Ok(())

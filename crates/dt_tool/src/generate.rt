@@ -10,7 +10,7 @@ ghost use Rattle.dt_scope.specs.Options.{IsOptions};
 ghost use Rattle.dt_forms.specs.Rules.{first_fault};
 ghost use Rattle.dt_forms.specs.Sound.{IsSound};
 ghost use Rattle.dt_forms.specs.Sources.{AreSources, IsSourceAt};
-ghost use Rattle.dt_forms.specs.Trees.{entries_of, items_of};
+ghost use Rattle.dt_scope.specs.Trees.{entries_of, items_of};
 ghost use Rattle.dt_forms.specs.View.{texts_of};
 ghost use Rattle.dt_tree.specs.Knots.{IsParted, patterns_of};
 ghost use Rattle.dt_tool.specs.Decoders.{IsDecoderOf};

@@ -4,6 +4,8 @@ mod arguments;
 mod definitions;
 mod format_texts;
 mod formats;
+mod group_texts;
+mod groups;
 mod outcomes;
 mod refusals;
 mod runs;

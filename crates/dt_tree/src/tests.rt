@@ -1,8 +1,8 @@
 //! Tests of trees on models that are built by hand.
 
 ghost use Rattle.std.specs.Prelude.{◌≡◌, ◌<◌, ◌^◌, length, map, IfOk};
-ghost use Rattle.dt_forms.specs.Trees.{items_of, items_from, numbers_from, entries_of};
-ghost use Rattle.dt_forms.specs.Trees.Item.{one};
+ghost use Rattle.dt_scope.specs.Trees.{items_of, items_from, numbers_from, entries_of};
+ghost use Rattle.dt_scope.specs.Trees.Item.{one};
 ghost use Rattle.dt_tree.specs.Knots.{patterns_of};
 
 use crate::{PositionList, Tree, TreeFault};

@@ -2,7 +2,7 @@
 
 ghost use Rattle.std.specs.Prelude.{◌≡◌, ◌<◌, length, map, All, IfOk, IfErr, OnOk};
 ghost use Rattle.dt_forms.specs.View.{pattern_seen};
-ghost use Rattle.dt_forms.specs.Trees.{items_of, entries_of};
+ghost use Rattle.dt_scope.specs.Trees.{items_of, entries_of};
 ghost use Rattle.dt_tree.specs.Knots.{patterns_of, IsFirstKnot, IsParted};
 ghost use Rattle.dt_tree.specs.Refusals.{position_at, IsRefused};
 

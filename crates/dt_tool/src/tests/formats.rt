@@ -498,11 +498,8 @@ fn lines_that_are_no_format_and_formats_that_overlap(rt: HostRuntime) -> Result<
     check_refusals(
         &rt,
         &[
-            ("{", "t:1: error: N2 not built\n"),
-            ("}", "t:1: error: N2 not built\n"),
-            ("[", "t:1: error: N2 not built\n"),
-            ("]", "t:1: error: N2 not built\n"),
-            ("  { @x 0y", "t:1: error: N2 not built\n"),
+            ("{", "t:1: error: L6 missing close: {\n"),
+            ("  { @x 0y", "t:1: error: L1 indentation: 2\n"),
             ("@f\n@g @f\n{", "t:2: error: G10 format in format: @f\n"),
             ("{{", "t:1: error: L7 invalid name: {{\n"),
             ("[]", "t:1: error: L7 invalid name: []\n"),

@@ -45,7 +45,7 @@ fn files_are_refused_by_the_first_rule_of_their_least_broken_line(
             b"t:1: error: G9 wrong bit count: 16\n",
         ),
         (b"@f ----\n", b"t:1: error: G9 wrong bit count: 4\n"),
-        (b"{\n", b"t:1: error: N2 not built\n"),
+        (b"{\n", b"t:1: error: L6 missing close: {\n"),
         (b"*a 0\n", b"t:1: error: L7 invalid name: *a\n"),
         (
             b"\xff-\x80 00000000000000000000000000000000\n",

@@ -1,20 +1,13 @@
-use Rattle.std.proofs.Common.{◌≡◌, ◌≤◌, length, subst, sym, ap}
+use Rattle.std.proofs.Common.{◌≡◌, ◌≤◌, [], length, subst, sym, ap}
 use Rattle.std.proofs.lemmas.List.{length-map}
 use Rattle.dt_forms.specs.Models.{IsModelOf}
 use Rattle.dt_forms.specs.View.{texts_of}
-use Rattle.dt_scope.specs.Scope.{Scope}
 use Rattle.dt_forms.proofs.ModelParts.{model_of_files}
 use Rattle.dt_forms.proofs.ReadSources.{sources_short}
-use Rattle.dt_forms.proofs.Soundness.{files_sound, sound_model}
+use Rattle.dt_forms.proofs.Soundness.{sound_model}
 use Rattle.dt_forms.specs.declared.reader.TheConstants.{MOST_FILES, MOST_PATTERNS}
 use Rattle.dt_forms.specs.declared.source.Source.{Source}
 use Rattle.dt_forms.proofs.reader.read_model.Goals as goal
-
-pub model_of-requires : goal.model_of-requires
-model_of-requires c =
-    let few : length (texts_of c.args.files.now) ≤ MOST_FILES = subst (λ n. n ≤ MOST_FILES) (sym (length-map c.args.files.now (λ (s : Source). s.bytes))) c.requires.few in
-    subst (λ (s : Scope). length s.patterns ≤ MOST_PATTERNS) (sym c.in_ok-scope.ensures.scope)
-    (files_sound c.args.options.now (texts_of c.args.files.now) c.requires.options.decode few (sources_short c.args.files.now c.requires.sources) c.in_ok-scope.ensures.kept).few
 
 pub returns-in-Ok-clause-model : goal.returns-in-Ok-clause-model
 returns-in-Ok-clause-model c =

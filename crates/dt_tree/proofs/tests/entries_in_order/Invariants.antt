@@ -1,7 +1,7 @@
 use Rattle.std.proofs.Common.{◌≡◌}
 use Rattle.std.specs.Prelude.{map}
-use Rattle.dt_forms.specs.Trees.{item_of, numbers_from}
-use Rattle.dt_forms.specs.Trees.Item.{one}
+use Rattle.dt_scope.specs.Trees.{item_of, numbers_from}
+use Rattle.dt_scope.specs.Trees.Item.{one}
 use Rattle.dt_tree.proofs.tests.entries_in_order.Given as goal
 
 abbrev pub invariant-loop-number : goal.invariant-loop-number

@@ -1,8 +1,9 @@
 -- The plain tree of a list of entries: numbers of patterns, and groups with their places.
-use Rattle.std.specs.Prelude.{ℕ, suc, zero, ◌+◌, List, [], ◌∷◌, ◌++◌, length, map}
-use Rattle.dt_forms.specs.declared.entry.Entry.{Entry, fold-Entry}
-use Rattle.dt_forms.specs.declared.entry.Entry.TheOpen.{Entry-F, Group-F}
-use Rattle.dt_scope.specs.Patterns.{FlatPattern}
+use Rattle.std.specs.Prelude.{ℕ, suc, zero, ◌+◌, max, List, [], ◌∷◌, ◌++◌, map}
+use Rattle.dt_scope.specs.declared.entry.Entry.{Entry, fold-Entry}
+use Rattle.dt_scope.specs.declared.entry.Entry.TheOpen.{Entry-F, Group-F}
+use Rattle.dt_scope.specs.declared.kind.Kind.{Kind}
+use Rattle.dt_scope.specs.declared.kind.Kind.TheVariants.{Brace, Bracket}
 
 -- a pattern by its number in the flat list, a group in braces or brackets; a group has its file, its line and its
 -- entries
@@ -57,6 +58,22 @@ abbrev pub numbers_from : ℕ → ℕ → List ℕ
 numbers_from start zero = []
 numbers_from start (suc n) = start ∷ numbers_from (start + 1) n
 
--- the entries of files without groups: each pattern by itself, in order
-abbrev pub entries_of : List FlatPattern → Items
-entries_of ps = items_from (map one (numbers_from 0 (length ps)))
+-- a group of this kind
+abbrev pub grouped : Kind → ℕ → ℕ → Items → Item
+grouped Brace file line is = overlap (cluster file line is)
+grouped Bracket file line is = exclusive (cluster file line is)
+
+-- how deep groups nest: a pattern has no depth, a group one more than the entries in it, and entries that of the
+-- deepest
+abbrev mutual
+  pub item_depth : Item → ℕ
+  item_depth (one n) = 0
+  item_depth (overlap c) = cluster_depth c
+  item_depth (exclusive c) = cluster_depth c
+
+  pub cluster_depth : Cluster → ℕ
+  cluster_depth (cluster file line is) = depth is + 1
+
+  pub depth : Items → ℕ
+  depth no_item = 0
+  depth (item i is) = max (item_depth i) (depth is)
