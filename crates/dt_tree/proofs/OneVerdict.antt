@@ -1,16 +1,30 @@
 -- Files have exactly one verdict.
-use Rattle.std.proofs.Common.{◌≡◌, ℕ, List, map, Option, Some, None, refl, ap, sym, ◌∙◌, inl, inr}
+use Rattle.std.proofs.Common.{◌≡◌, ℕ, ◌<◌, List, [], ◌∷◌, ◌⊎◌, Option, Some, None, refl, ap, sym, ◌∙◌, arith, inl, inr, length, map}
+use Rattle.std.specs.Prelude.{AllPairs, Contains}
 use Rattle.dt_forms.specs.FileFaults.{first_broken}
-use Rattle.dt_forms.specs.Models.{flat_list}
+use Rattle.dt_forms.specs.Models.{definitions_of, entries_in_files, flat_list}
+use Rattle.dt_forms.specs.Sound.{IsEarlier, positions_of}
+use Rattle.dt_forms.specs.View.{pattern_seen}
 use Rattle.dt_scope.specs.Patterns.{FlatPattern}
+use Rattle.dt_scope.specs.Trees.{Items}
+use Rattle.dt_scope.specs.declared.form.Pattern.{Pattern}
 use Rattle.dt_scope.specs.declared.options.Options.{Options}
 use Rattle.dt_forms.specs.Rules.{Fault}
 use Rattle.dt_lines.specs.declared.line.Position.{Position}
-use Rattle.dt_tree.specs.Knots.{IsParted}
-use Rattle.dt_tree.specs.Refusals.{ShowsFirstKnot, position_at}
-use Rattle.dt_tree.specs.Verdicts.{Verdict, kept, broken, overlapping, IsVerdict}
-use Rattle.dt_tree.proofs.OneFirstKnot.{one_first}
-use Rattle.dt_tree.proofs.SomeFirstKnot.{some_first_knot}
+use Rattle.dt_tree.specs.Entries.{exclusive_lists}
+use Rattle.dt_tree.specs.EmptyGroups.{IsLeastEmpty, empty_groups}
+use Rattle.dt_tree.specs.Knots.{AreParted, IsFirstKnotIn}
+use Rattle.dt_tree.specs.Refusals.{AreTold, ShowsFirstKnot}
+use Rattle.dt_tree.specs.Answers.{IsAnswerIn}
+use Rattle.dt_tree.specs.Verdicts.{Verdict, kept, broken, empty_group, overlapping, IsVerdict}
+use Rattle.dt_tree.proofs.Building.{first_found}
+use Rattle.dt_tree.proofs.EmptyGroups.{least_empty}
+use Rattle.dt_tree.proofs.FileEntries.{files_in_order}
+use Rattle.dt_tree.proofs.Filled.{every_filled}
+use Rattle.dt_tree.proofs.OneFirstKnot.{none_where_parted, one_first_knot, one_least_empty}
+use Rattle.dt_tree.proofs.Order.{items_positions, order_seen}
+use Rattle.dt_tree.proofs.Rising.{all_rising}
+use Rattle.dt_tree.proofs.SomeFirstKnot.{some_answer}
 
 none_or_some : {A : Type 0} (o : Option A) (x : A) → o ≡ None → o ≡ Some x → ⊥
 none_or_some o x none some = let e : None ≡ Some x = sym none ∙ some in cc
@@ -18,34 +32,63 @@ none_or_some o x none some = let e : None ≡ Some x = sym none ∙ some in cc
 one_fault : (o : Option Fault) (a b : Fault) → o ≡ Some a → o ≡ Some b → a ≡ b
 one_fault o a b e f = let same : Some a ≡ Some b = sym e ∙ f in cc
 
-parted_or_shown : (ps : List FlatPattern) (positions : List Position) → IsParted ps → ShowsFirstKnot ps positions → ⊥
-parted_or_shown ps positions parted shown = parted.no_knot shown.members shown.first.knot
+-- no group is empty, or one is
+filled_or_empty : (is : Items) (p : Position) → empty_groups is ≡ [] → IsLeastEmpty is p → ⊥
+filled_or_empty is p none e = no_member (empty_groups is) none e.empty
+  where
+    no_member : (ps : List Position) → ps ≡ [] → Contains ps p → ⊥
+    no_member ps e h = let long : length ps ≡ 0 = ap length e in let l : h.0 < length ps = h.1 in omega arith
 
-one_shown : (ps : List FlatPattern) (positions others : List Position) → ShowsFirstKnot ps positions → ShowsFirstKnot ps others → positions ≡ others
-one_shown ps positions others h k = h.each ∙ ap (map (position_at ps)) (one_first ps h.members k.members h.first k.first) ∙ sym k.each
+one_shown : (options : Options) (texts : List (List ℕ)) (positions others : List Position)
+    → ShowsFirstKnot (flat_list options texts) (entries_in_files options texts) positions → ShowsFirstKnot (flat_list options texts) (entries_in_files options texts) others → positions ≡ others
+one_shown options texts positions others h k =
+    one_first_knot (flat_list options texts) (entries_in_files options texts) positions others
+    (order_seen (definitions_of options texts).patterns (entries_in_files options texts) (files_in_order options texts)) h.first k.first
 
 pub one_verdict : (options : Options) (texts : List (List ℕ)) (one other : Verdict) → IsVerdict options texts one → IsVerdict options texts other → one ≡ other
 one_verdict options texts kept kept h k = refl
 one_verdict options texts kept (broken b) h k = absurd (none_or_some (first_broken options texts) b h.0 k)
-one_verdict options texts kept (overlapping ms) h k = absurd (parted_or_shown (flat_list options texts) ms h.1 k.1)
+one_verdict options texts kept (empty_group p) h k = absurd (filled_or_empty (entries_in_files options texts) p h.1.filled k.1)
+one_verdict options texts kept (overlapping ms) h k = absurd (none_where_parted (flat_list options texts) (exclusive_lists (entries_in_files options texts)) ms h.1.parted k.1.first)
 one_verdict options texts (broken a) kept h k = absurd (none_or_some (first_broken options texts) a k.0 h)
 one_verdict options texts (broken a) (broken b) h k = ap broken (one_fault (first_broken options texts) a b h k)
+one_verdict options texts (broken a) (empty_group p) h k = absurd (none_or_some (first_broken options texts) a k.0 h)
 one_verdict options texts (broken a) (overlapping ms) h k = absurd (none_or_some (first_broken options texts) a k.0 h)
-one_verdict options texts (overlapping ms) kept h k = absurd (parted_or_shown (flat_list options texts) ms k.1 h.1)
+one_verdict options texts (empty_group p) kept h k = absurd (filled_or_empty (entries_in_files options texts) p k.1.filled h.1)
+one_verdict options texts (empty_group p) (broken b) h k = absurd (none_or_some (first_broken options texts) b h.0 k)
+one_verdict options texts (empty_group p) (empty_group q) h k = ap empty_group (one_least_empty (entries_in_files options texts) p q h.1 k.1)
+one_verdict options texts (empty_group p) (overlapping ms) h k = absurd (filled_or_empty (entries_in_files options texts) p k.1.filled h.1)
+one_verdict options texts (overlapping ms) kept h k = absurd (none_where_parted (flat_list options texts) (exclusive_lists (entries_in_files options texts)) ms k.1.parted h.1.first)
 one_verdict options texts (overlapping ms) (broken b) h k = absurd (none_or_some (first_broken options texts) b h.0 k)
-one_verdict options texts (overlapping ms) (overlapping ns) h k = ap overlapping (one_shown (flat_list options texts) ms ns h.1 k.1)
+one_verdict options texts (overlapping ms) (empty_group p) h k = absurd (filled_or_empty (entries_in_files options texts) p h.1.filled k.1)
+one_verdict options texts (overlapping ms) (overlapping ns) h k = ap overlapping (one_shown options texts ms ns h.1 k.1)
 
-by_knot : (options : Options) (texts : List (List ℕ)) → first_broken options texts ≡ None → (v : Verdict) × IsVerdict options texts v
-by_knot options texts none = elim (some_first_knot (flat_list options texts)) [
-  | inl parted ↦ (kept, (none, parted))
-  | inr knot ↦ (
-    overlapping (map (position_at (flat_list options texts)) knot.0),
-    (none, record { members = knot.0; first = knot.1; each = refl }),
-  )
+by_found : (patterns : List FlatPattern) (is : Items) (found : Option (List Position)) → AllPairs IsEarlier (items_positions patterns is) → IsAnswerIn patterns (exclusive_lists is) found
+    → AreParted patterns (exclusive_lists is) ⊎ ((shown : List Position) × IsFirstKnotIn patterns (exclusive_lists is) shown)
+by_found patterns is None up answer = inl answer
+by_found patterns is (Some shown) up answer = inr (shown, first_found patterns (exclusive_lists is) shown (all_rising patterns is up) answer)
+
+pub some_first_knot : (patterns : List Pattern) (is : Items) → AllPairs IsEarlier (positions_of patterns is) → empty_groups is ≡ []
+    → AreParted (map pattern_seen patterns) (exclusive_lists is) ⊎ ((shown : List Position) × IsFirstKnotIn (map pattern_seen patterns) (exclusive_lists is) shown)
+some_first_knot patterns is up none =
+    let answer = some_answer (map pattern_seen patterns) (exclusive_lists is) (every_filled is none) in
+    by_found (map pattern_seen patterns) is answer.0 (order_seen patterns is up) answer.1
+
+by_knot : (options : Options) (texts : List (List ℕ)) → first_broken options texts ≡ None → empty_groups (entries_in_files options texts) ≡ [] → (v : Verdict) × IsVerdict options texts v
+by_knot options texts none filled = elim (some_first_knot (definitions_of options texts).patterns (entries_in_files options texts) (files_in_order options texts) filled) [
+  | inl parted ↦ (kept, (none, record { filled = filled; parted = parted }))
+  | inr knot ↦ (overlapping knot.0, (none, record { filled = filled; first = knot.1 }))
 ]
 
+by_groups : (options : Options) (texts : List (List ℕ)) → first_broken options texts ≡ None → (v : Verdict) × IsVerdict options texts v
+by_groups options texts none =
+    elim (least_empty (flat_list options texts) (entries_in_files options texts) (order_seen (definitions_of options texts).patterns (entries_in_files options texts) (files_in_order options texts))) [
+      | inl filled ↦ by_knot options texts none filled
+      | inr least ↦ (empty_group least.0, (none, least.1))
+    ]
+
 by_fault : (options : Options) (texts : List (List ℕ)) (fault : Option Fault) → first_broken options texts ≡ fault → (v : Verdict) × IsVerdict options texts v
-by_fault options texts None none = by_knot options texts none
+by_fault options texts None none = by_groups options texts none
 by_fault options texts (Some fault) some = (broken fault, some)
 
 pub some_verdict : (options : Options) (texts : List (List ℕ)) → (v : Verdict) × IsVerdict options texts v

@@ -1,4 +1,9 @@
+pub mod Entries
+pub mod EmptyGroups
 pub mod Knots
-pub mod FirstKnots
 pub mod Refusals
 pub mod Verdicts
+pub mod PatternKnots
+pub mod Splits
+pub mod Commons
+pub mod Answers

@@ -1,38 +1,68 @@
 //! Laws of knots and verdicts: public functions whose contracts are the laws, and whose bodies are empty.
 
-ghost use Rattle.std.specs.Prelude.{◌≡◌, ◌<◌, ◌↔◌, ◌⊎◌, ℕ, List, ◌++◌, length, All, Contains};
+ghost use Rattle.std.specs.Prelude.{◌≡◌, ◌<◌, ◌↔◌, ◌⊎◌, ℕ, List, [], ◌++◌, length, map, All, AllPairs, Contains};
+ghost use Rattle.dt_lines.specs.declared.line.Position.{Position};
+ghost use Rattle.dt_scope.specs.declared.form.Pattern.{Pattern};
 ghost use Rattle.dt_scope.specs.declared.options.Options.{Options};
 ghost use Rattle.dt_scope.specs.Patterns.{FlatPattern, Matches};
-ghost use Rattle.dt_tree.specs.Knots.{pattern_at, IsKnot, IsParted, IsFirstKnot, IsWhole, HaveOneWord};
+ghost use Rattle.dt_scope.specs.Trees.{Items, items_of};
+ghost use Rattle.dt_forms.specs.declared.model.Model.{Model};
+ghost use Rattle.dt_forms.specs.Models.{IsModelOf, entries_in_files};
+ghost use Rattle.dt_forms.specs.Sound.{IsEarlier, positions_of};
+ghost use Rattle.dt_forms.specs.View.{pattern_seen};
+ghost use Rattle.dt_tree.specs.Entries.{exclusive_lists};
+ghost use Rattle.dt_tree.specs.EmptyGroups.{IsLeastEmpty, empty_groups};
+ghost use Rattle.dt_tree.specs.Knots.{alone, entry_at, AreParted, IsKnot, IsParted, IsFirstKnot, IsFirstKnotIn};
+ghost use Rattle.dt_tree.specs.Knots.{HaveOneWord, IsWhole};
 ghost use Rattle.dt_tree.specs.Verdicts.{Verdict, IsVerdict};
 
-/// Two knots that share a place form a knot together.
+/// Two knots that share an entry form a knot together, where a pattern is below that entry.
 pub fn law_knots_join()
-    ensures { (ps : List FlatPattern) (ks ls : List ℕ) (i : ℕ) → IsKnot ps ks → IsKnot ps ls
-        → Contains ks i → Contains ls i → IsKnot ps (ks ++ ls) }
+    ensures { (es : List (List FlatPattern)) (ks ls : List ℕ) (i : ℕ) (p : FlatPattern) → IsKnot es ks → IsKnot es ls
+        → Contains ks i → Contains ls i → Contains (entry_at es i) p → IsKnot es (ks ++ ls) }
 {}
 
-/// A list has one first knot, and none where it is parted.
+/// A list has one first knot, and so have the exclusive lists of entries in order; there is none where they are parted.
 pub fn law_one_first_knot()
-    ensures one { (ps : List FlatPattern) (ks ls : List ℕ) → IsFirstKnot ps ks → IsFirstKnot ps ls → ks ≡ ls }
-    ensures none { (ps : List FlatPattern) (ks : List ℕ) → IsParted ps → IsFirstKnot ps ks → ⊥ }
+    ensures of_list { (es : List (List FlatPattern)) (ks ls : List ℕ)
+        → IsFirstKnot es ks → IsFirstKnot es ls → ks ≡ ls }
+    ensures one { (patterns : List Pattern) (is : Items) (shown other : List Position)
+        → AllPairs IsEarlier (positions_of patterns is)
+        → IsFirstKnotIn (map pattern_seen patterns) (exclusive_lists is) shown
+        → IsFirstKnotIn (map pattern_seen patterns) (exclusive_lists is) other → shown ≡ other }
+    ensures none { (patterns : List FlatPattern) (lists : List Items) (shown : List Position)
+        → AreParted patterns lists → IsFirstKnotIn patterns lists shown → ⊥ }
 {}
 
-/// A list is parted or has a first knot.
+/// Where no group is empty, the exclusive lists of entries in order are parted or have a first knot.
 pub fn law_some_first_knot()
-    ensures { (ps : List FlatPattern) → IsParted ps ⊎ ((places : List ℕ) × IsFirstKnot ps places) }
+    ensures { (patterns : List Pattern) (is : Items) → AllPairs IsEarlier (positions_of patterns is)
+        → empty_groups is ≡ [] → AreParted (map pattern_seen patterns) (exclusive_lists is)
+        ⊎ ((shown : List Position) × IsFirstKnotIn (map pattern_seen patterns) (exclusive_lists is) shown) }
 {}
 
-/// Two different members of a parted list never match one word.
+/// Entries have one least empty group.
+pub fn law_one_least_empty()
+    ensures { (is : Items) (one other : Position) → IsLeastEmpty is one → IsLeastEmpty is other → one ≡ other }
+{}
+
+/// Patterns below two different entries of a parted list never match one word.
 pub fn law_one_match()
-    ensures { (ps : List FlatPattern) (word i j : ℕ) → IsParted ps → i < length ps → j < length ps
-        → Matches (pattern_at ps i) word → Matches (pattern_at ps j) word → i ≡ j }
+    ensures { (es : List (List FlatPattern)) (word i j : ℕ) (p q : FlatPattern) → IsParted es → i < length es
+        → j < length es → Contains (entry_at es i) p → Contains (entry_at es j) q → Matches p word → Matches q word
+        → i ≡ j }
 {}
 
-/// Where each pattern fixes a whole word, patterns form a knot exactly where they have the same bits.
+/// Where each entry is a pattern that fixes a whole word, entries form a knot exactly where they have the same bits.
 pub fn law_whole_knots()
     ensures { (width : ℕ) (ps : List FlatPattern) (places : List ℕ) → All (IsWhole width) ps
-        → IsKnot ps places ↔ HaveOneWord ps places }
+        → IsKnot (map alone ps) places ↔ HaveOneWord ps places }
+{}
+
+/// The entries of a model of files are those of the files.
+pub fn law_model_entries()
+    ensures { (options : Options) (texts : List (List ℕ)) (model : Model) → IsModelOf options texts model
+        → items_of model.entries ≡ entries_in_files options texts }
 {}
 
 /// Files have exactly one verdict.

@@ -1,69 +1,55 @@
 //! The decision tree of a model.
 
-ghost use Rattle.std.specs.Prelude.{◌≡◌, ◌<◌, length, map, All, IfOk, IfErr, OnOk};
+ghost use Rattle.std.specs.Prelude.{map, AllPairs, IfErr, OnOk};
+ghost use Rattle.dt_scope.specs.Trees.{items_of};
+ghost use Rattle.dt_forms.specs.Sound.{IsEarlier, positions_of};
 ghost use Rattle.dt_forms.specs.View.{pattern_seen};
-ghost use Rattle.dt_scope.specs.Trees.{items_of, entries_of};
-ghost use Rattle.dt_tree.specs.Knots.{patterns_of, IsFirstKnot, IsParted};
-ghost use Rattle.dt_tree.specs.Refusals.{position_at, IsRefused};
+ghost use Rattle.dt_tree.specs.Entries.{AreInOrder, patterns_of};
+ghost use Rattle.dt_tree.specs.Refusals.{AreTold, HasCause, IsRefused};
 
+use crate::empty::first_empty;
 use crate::fault::{PositionList, TreeFault};
-use crate::split::knot_of;
-use dt_forms::{Model, Pattern};
-use dt_lines::Position;
-use std::alloc::{AllocError, Global};
+use crate::first::first_of_list;
+use dt_forms::{Entry, Model, Pattern};
+use std::alloc::Global;
 
-/// The tree of a model. It keeps nothing yet: that there is one says that the patterns are parted.
+/// The tree of a model. It keeps nothing yet: that there is one says that its entries are told apart.
 #[derive(Debug, Drop)]
 pub struct Tree {
     nodes: (),
 }
 
-// Where the patterns at these places stand in the files.
-fn positions_of(
-    alloc: Global,
-    patterns: &[Pattern],
-    members: &[usize],
-) -> Result<PositionList, AllocError>
-    requires { All (λ i. i < length patterns.now) members.now }
-    ensures { IfOk result (λ positions.
-        positions ≡ map (position_at (map pattern_seen patterns.now)) members.now) }
-{
-    let mut positions = Vec::new(alloc);
-    for member in members {
-        let pattern = &patterns[*member];
-        positions.push(Position {
-            file: pattern.file,
-            line: pattern.line,
-        })?;
-    }
-    Ok(PositionList::of(positions))
-}
-
-/// The refusal that shows the first knot.
-fn refusal(alloc: Global, patterns: &[Pattern], members: &[usize]) -> TreeFault
-    requires { IsFirstKnot (map pattern_seen patterns.now) members.now }
-    ensures { IsRefused (map pattern_seen patterns.now) result }
-{
-    match positions_of(alloc, patterns, members) {
-        Ok(positions) => TreeFault::Knot(positions),
-        Err(_) => TreeFault::NoMemory,
-    }
-}
-
 impl Tree {
-    /// The tree of a model without groups. A knot is two or more patterns such that every bit that all of them
-    /// fix has one value in all of them. Errors: `Knot` where patterns of the model are a knot, `NoMemory` where
-    /// memory runs out.
+    /// The tree of a model. Outside of groups and in brackets the entries of a list are exclusive: two or more of them
+    /// are a knot where every bit that all of them fix has one value in all of them. Errors: `Empty` where a group has
+    /// no entry; else `Knot` where entries of an exclusive list are a knot; `NoMemory` where memory runs out. Where the
+    /// model's entries stand in order, as those of files do, the least empty group or knot is shown.
     pub fn build(alloc: Global, model: &Model) -> Result<Tree, TreeFault>
-        requires flat { items_of model.now.entries ≡ entries_of (patterns_of model.now) }
-        ensures parted { OnOk result (IsParted (patterns_of model.now)) }
-        ensures refused { IfErr result (λ fault. IsRefused (patterns_of model.now) fault) }
+        ensures told { OnOk result (AreTold (patterns_of model.now) (items_of model.now.entries)) }
+        ensures refused { IfErr result (λ fault. AreInOrder model.now
+            → IsRefused (patterns_of model.now) (items_of model.now.entries) fault) }
+        ensures cause { IfErr result (λ fault.
+            HasCause (patterns_of model.now) (items_of model.now.entries) fault) }
     {
-        let patterns = model.patterns.items();
-        match knot_of(alloc, patterns) {
-            Ok(None) => Ok(Tree { nodes: () }),
-            Ok(Some(members)) => Err(refusal(alloc, patterns, members.as_slice())),
-            Err(_) => Err(TreeFault::NoMemory),
-        }
+        tree_of(alloc, model.patterns.items(), model.entries.items())
+    }
+}
+
+// The tree of these entries, whose patterns are among these.
+fn tree_of(alloc: Global, patterns: &[Pattern], entries: &[Entry]) -> Result<Tree, TreeFault>
+    ensures told { OnOk result (AreTold (map pattern_seen patterns.now) (items_of entries.now)) }
+    ensures refused { IfErr result (λ fault.
+        AllPairs IsEarlier (positions_of patterns.now (items_of entries.now))
+        → IsRefused (map pattern_seen patterns.now) (items_of entries.now) fault) }
+    ensures cause { IfErr result (λ fault.
+        HasCause (map pattern_seen patterns.now) (items_of entries.now) fault) }
+{
+    if let Some(position) = first_empty(entries) {
+        return Err(TreeFault::Empty(position));
+    }
+    match first_of_list(alloc, patterns, entries) {
+        Ok(None) => Ok(Tree { nodes: () }),
+        Ok(Some(positions)) => Err(TreeFault::Knot(PositionList::of(positions))),
+        Err(_) => Err(TreeFault::NoMemory),
     }
 }
