@@ -14,7 +14,7 @@ use Rattle.dt_lines.specs.declared.line.Position.{Position}
 use Rattle.dt_tree.specs.Entries.{exclusive_lists}
 use Rattle.dt_tree.specs.EmptyGroups.{IsLeastEmpty, empty_groups}
 use Rattle.dt_tree.specs.Knots.{AreParted, IsFirstKnotIn}
-use Rattle.dt_tree.specs.Refusals.{AreTold, ShowsFirstKnot}
+use Rattle.dt_tree.specs.Refusals.{KeepGroupRules, ShowsFirstKnot}
 use Rattle.dt_tree.specs.Answers.{IsAnswerIn}
 use Rattle.dt_tree.specs.Verdicts.{Verdict, kept, broken, empty_group, overlapping, IsVerdict}
 use Rattle.dt_tree.proofs.Building.{first_found}

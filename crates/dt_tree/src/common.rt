@@ -25,7 +25,7 @@ fn fixed_by_pattern(patterns: &[Pattern], number: u32) -> FixedBits
     }
 }
 
-// What two lists of patterns fix alike; a list without patterns has nothing to say.
+// What two lists of patterns fix alike; a list without patterns fixes none.
 #[tactic(auto, using(crate::proofs::Commons::common_none, crate::proofs::Commons::none_common, crate::proofs::Commons::common_both))]
 fn fixed_by_both_lists(one: Option<FixedBits>, other: Option<FixedBits>) -> Option<FixedBits>
     ensures { (xs ys : List FlatPattern) → IsCommonOf one xs → IsCommonOf other ys

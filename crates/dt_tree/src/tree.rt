@@ -5,7 +5,7 @@ ghost use Rattle.dt_scope.specs.Trees.{items_of};
 ghost use Rattle.dt_forms.specs.Sound.{IsEarlier, positions_of};
 ghost use Rattle.dt_forms.specs.View.{pattern_seen};
 ghost use Rattle.dt_tree.specs.Entries.{AreInOrder, patterns_of};
-ghost use Rattle.dt_tree.specs.Refusals.{AreTold, HasCause, IsRefused};
+ghost use Rattle.dt_tree.specs.Refusals.{KeepGroupRules, HasCause, IsRefused};
 
 use crate::empty::first_empty;
 use crate::fault::{PositionList, TreeFault};
@@ -25,7 +25,7 @@ impl Tree {
     /// no entry; else `Knot` where entries of an exclusive list are a knot; `NoMemory` where memory runs out. Where the
     /// model's entries stand in order, as those of files do, the least empty group or knot is shown.
     pub fn build(alloc: Global, model: &Model) -> Result<Tree, TreeFault>
-        ensures told { OnOk result (AreTold (patterns_of model.now) (items_of model.now.entries)) }
+        ensures kept { OnOk result (KeepGroupRules (patterns_of model.now) (items_of model.now.entries)) }
         ensures refused { IfErr result (λ fault. AreInOrder model.now
             → IsRefused (patterns_of model.now) (items_of model.now.entries) fault) }
         ensures cause { IfErr result (λ fault.
@@ -37,7 +37,7 @@ impl Tree {
 
 // The tree of these entries, whose patterns are among these.
 fn tree_of(alloc: Global, patterns: &[Pattern], entries: &[Entry]) -> Result<Tree, TreeFault>
-    ensures told { OnOk result (AreTold (map pattern_seen patterns.now) (items_of entries.now)) }
+    ensures kept { OnOk result (KeepGroupRules (map pattern_seen patterns.now) (items_of entries.now)) }
     ensures refused { IfErr result (λ fault.
         AllPairs IsEarlier (positions_of patterns.now (items_of entries.now))
         → IsRefused (map pattern_seen patterns.now) (items_of entries.now) fault) }
