@@ -1,5 +1,5 @@
 -- A refusal says what is due.
-use Rattle.std.proofs.Common.{◌≡◌, ℕ, ◌≤◌, List, [], ◌∷◌, length, Option, Some, None, refl, ap, sym, ◌∙◌, subst, inr}
+use Rattle.std.proofs.Common.{◌≡◌, ℕ, ◌≤◌, List, [], ◌∷◌, length, Option, Some, None, refl, ap, sym, ◌∙◌, subst, inl, inr, ◌⊎◌}
 use Rattle.std.specs.Prelude.{Result, Ok, Err, Vec, IsErrAnd}
 use Rattle.std.specs.Option.{option_map, option_or}
 use Rattle.dt_lines.specs.Faults.{FileFault, too_many_lines, long_name, line_fault}
@@ -11,17 +11,21 @@ use Rattle.dt_forms.specs.declared.fault.ModelFault.{ModelFault}
 use Rattle.dt_forms.specs.declared.fault.ModelFault.TheVariants as faults
 use Rattle.dt_forms.specs.FileFaults.{fault_in_file, file_fault, first_broken}
 use Rattle.dt_scope.specs.Options.{default_options}
-use Rattle.dt_forms.specs.Models.{flat_list}
+use Rattle.dt_forms.specs.declared.model.Model.{Model}
+use Rattle.dt_forms.specs.Models.{IsModelOf, entries_in_files, flat_list}
+use Rattle.dt_scope.specs.Trees.{Items, items_of}
 use Rattle.dt_scope.specs.Patterns.{FlatPattern}
 use Rattle.dt_fields.specs.Faults.{Detail, nothing}
 use Rattle.dt_forms.specs.Rules.{Fault, first_fault}
 use Rattle.dt_fields.specs.View.{IsDetailWithin, detail_seen}
 use Rattle.dt_forms.specs.View.{FileBroken, fault_seen}
-use Rattle.dt_tree.specs.Refusals.{ShowsFirstKnot}
-use Rattle.dt_tree.specs.Verdicts.{broken, overlapping}
-use Rattle.dt_tool.specs.Due.{refused, IsDueOf}
+use Rattle.dt_tree.specs.Entries.{patterns_of}
+use Rattle.dt_tree.specs.Refusals.{KeepGroupRules}
+use Rattle.dt_tree.specs.Verdicts.{kept, broken, empty_group, overlapping}
+use Rattle.dt_tree.proofs.Readings.{model_entries}
+use Rattle.dt_tool.specs.Due.{refused, written, text_of, IsDueOf}
 use Rattle.dt_tool.specs.Messages as said
-use Rattle.dt_tool.specs.Refusals.{RefusesFault, RefusesKnot, SaysFault, SaysThis}
+use Rattle.dt_tool.specs.Refusals.{NamesEmpty, NamesKnot, RefusesEntries, RefusesFault, SaysFault, SaysThis}
 use Rattle.dt_tool.specs.Stops.{AnswersDue}
 use Rattle.dt_tool.specs.declared.generate.Stop.{Stop}
 use Rattle.dt_tool.specs.declared.generate.Stop.TheVariants as stops
@@ -89,21 +93,44 @@ pub lines_due : (A : Type 0) (file bytes : List ℕ) (stop : Stop) → length by
     → RefusesFault stop (file ∷ []) (first_fault default_options (bytes ∷ [])) → AnswersDue {A = A} ⊥ (Err stop) (IsDueOf file bytes)
 lines_due A file bytes stop small whole h = broken_due A file bytes (first_fault default_options (bytes ∷ [])) stop small (λ fault is. of_file bytes None (Some fault) whole is) h
 
--- and one of its overlaps
-pub knot_due : (A : Type 0) (file bytes : List ℕ) (ps : List FlatPattern) (stop : Stop) → length bytes ≤ LARGEST_FILE → first_broken default_options (bytes ∷ []) ≡ None
-    → ps ≡ flat_list default_options (bytes ∷ []) → RefusesKnot stop (file ∷ []) (bytes ∷ []) ps → AnswersDue {A = A} ⊥ (Err stop) (IsDueOf file bytes)
-knot_due A file bytes ps stops.Usage small none are h = absurd h
-knot_due A file bytes ps (stops.ReadFault message) small none are h = absurd h
-knot_due A file bytes ps (stops.Refused message) small none are h =
+-- and one of its entries
+named_due : (file bytes message : List ℕ) → length bytes ≤ LARGEST_FILE → first_broken default_options (bytes ∷ []) ≡ None
+    → NamesEmpty (file ∷ []) (bytes ∷ []) (entries_in_files default_options (bytes ∷ [])) message
+    ⊎ NamesKnot (file ∷ []) (bytes ∷ []) (flat_list default_options (bytes ∷ [])) (entries_in_files default_options (bytes ∷ [])) message
+    → IsDueOf file bytes (refused message)
+named_due file bytes message small none (inl empty) = inr (small, record { verdict = empty_group empty.position; stands = (none, empty.least); due = ap refused (sym empty.shown) })
+named_due file bytes message small none (inr knot) = inr (small, record { verdict = overlapping knot.positions; stands = (none, knot.first); due = ap refused (sym knot.shown) })
+
+entries_refused : (A : Type 0) (file bytes : List ℕ) (stop : Stop) → length bytes ≤ LARGEST_FILE → first_broken default_options (bytes ∷ []) ≡ None
+    → RefusesEntries stop (file ∷ []) (bytes ∷ []) (flat_list default_options (bytes ∷ [])) (entries_in_files default_options (bytes ∷ [])) → AnswersDue {A = A} ⊥ (Err stop) (IsDueOf file bytes)
+entries_refused A file bytes stops.Usage small none h = absurd h
+entries_refused A file bytes (stops.ReadFault message) small none h = absurd h
+entries_refused A file bytes (stops.Refused message) small none h = named_due file bytes message.items small none h
+entries_refused A file bytes stops.NoMemory small none h = tt
+
+pub entries_due : (A : Type 0) (file bytes : List ℕ) (model : Model) (stop : Stop) → length bytes ≤ LARGEST_FILE → first_broken default_options (bytes ∷ []) ≡ None
+    → IsModelOf default_options (bytes ∷ []) model → RefusesEntries stop (file ∷ []) (bytes ∷ []) (patterns_of model) (items_of model.entries) → AnswersDue {A = A} ⊥ (Err stop) (IsDueOf file bytes)
+entries_due A file bytes model stop small none is h =
+    entries_refused A file bytes stop small none
+    (subst (λ (ps : List FlatPattern). RefusesEntries stop (file ∷ []) (bytes ∷ []) ps (entries_in_files default_options (bytes ∷ []))) is.flat
+    (subst (λ (items : Items). RefusesEntries stop (file ∷ []) (bytes ∷ []) (patterns_of model) items) (model_entries default_options (bytes ∷ []) model is) h))
+
+-- a text of entries that are told apart is due
+pub kept_due : (file bytes text : List ℕ) (model : Model) → length bytes ≤ LARGEST_FILE → first_broken default_options (bytes ∷ []) ≡ None
+    → IsModelOf default_options (bytes ∷ []) model → KeepGroupRules (patterns_of model) (items_of model.entries) → text ≡ text_of (bytes ∷ []) → IsDueOf file bytes (written text)
+kept_due file bytes text model small none is told e =
     inr (
       small,
       record {
-        verdict = overlapping h.positions;
-        stands = (none, subst (λ (qs : List FlatPattern). ShowsFirstKnot qs h.positions) are h.first);
-        due = ap refused (sym h.shown);
+        verdict = kept;
+        stands = (
+          none,
+          subst (λ (ps : List FlatPattern). KeepGroupRules ps (entries_in_files default_options (bytes ∷ []))) is.flat
+              (subst (λ (items : Items). KeepGroupRules (patterns_of model) items) (model_entries default_options (bytes ∷ []) model is) told),
+        );
+        due = ap written (sym e);
       },
     )
-knot_due A file bytes ps stops.NoMemory small none are h = tt
 
 -- what a `?` hands on
 pub handed_on : {A : Type 0} (P : Result (Vec ℕ A) Stop → Type 0) (result : Result (Vec ℕ A) Stop) (stop : Stop) → IsErrAnd result (λ handed. handed ≡ stop) → P (Err stop) → P result

@@ -3,9 +3,10 @@ use Rattle.std.specs.Prelude.{◌≡◌, ◌<◌, ◌≤◌, ◌⊎◌, ℕ, Lis
 use Rattle.std.specs.FinMap as map
 use Rattle.dt_io.specs.Files.{Files}
 use Rattle.dt_lines.specs.declared.scan.TheConstants.{LARGEST_FILE}
+use Rattle.dt_fields.specs.declared.rule.Rule.TheVariants as rule
 use Rattle.dt_forms.specs.Models.{definitions_of}
 use Rattle.dt_scope.specs.Options.{default_options}
-use Rattle.dt_tree.specs.Verdicts.{Verdict, kept, broken, overlapping, IsVerdict}
+use Rattle.dt_tree.specs.Verdicts.{Verdict, kept, broken, empty_group, overlapping, IsVerdict}
 use Rattle.c_writer.specs.Layout.{layout}
 use Rattle.c_writer.specs.Parts.{parts_of}
 use Rattle.dt_tool.specs.Messages as said
@@ -25,6 +26,7 @@ text_of texts = layout (parts_of default_options (definitions_of default_options
 abbrev pub due_of_verdict : List (List ℕ) → List (List ℕ) → Verdict → Due
 due_of_verdict names texts kept = written (text_of texts)
 due_of_verdict names texts (broken fault) = refused (said.fault_message names fault)
+due_of_verdict names texts (empty_group position) = refused (said.entry_message rule.H1 names texts position)
 due_of_verdict names texts (overlapping positions) = refused (said.overlap_message names texts positions)
 
 -- what is due for files of these names and texts

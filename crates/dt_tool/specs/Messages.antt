@@ -69,13 +69,18 @@ fault_text kind names fault =
 abbrev pub fault_message : List (List ℕ) → Fault → List ℕ
 fault_message names fault = fault_text (codes "error") names fault
 
--- a line about an overlap at a position: it names the first token of the line there
-abbrev pub overlap_text : List ℕ → List (List ℕ) → List (List ℕ) → Position → List ℕ
-overlap_text kind names texts position =
-    place_text kind names position rule.H2 ++ (bytes_text (first_token_at texts position) ++ line_end)
+-- a line about an entry at a position, by a rule of groups: it names the first token of the line there, which is the
+-- pattern's name, or opens the group
+abbrev pub entry_text : List ℕ → Rule → List (List ℕ) → List (List ℕ) → Position → List ℕ
+entry_text kind broken names texts position =
+    place_text kind names position broken ++ (bytes_text (first_token_at texts position) ++ line_end)
+
+abbrev pub entry_message : Rule → List (List ℕ) → List (List ℕ) → Position → List ℕ
+entry_message broken names texts position = entry_text (codes "error") broken names texts position
 
 -- the first of them, and a note for each other
 abbrev pub overlap_message : List (List ℕ) → List (List ℕ) → List Position → List ℕ
 overlap_message names texts [] = []
 overlap_message names texts (p ∷ ps) =
-    overlap_text (codes "error") names texts p ++ flat_map (overlap_text (codes "note") names texts) ps
+    entry_text (codes "error") rule.H2 names texts p
+    ++ flat_map (entry_text (codes "note") rule.H2 names texts) ps

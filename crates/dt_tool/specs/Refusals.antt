@@ -1,5 +1,6 @@
--- How a refusal names what the inputs break: a fault of a file or a line, or a knot (docs/COMMANDS.md, "Rules").
-use Rattle.std.specs.Prelude.{ℕ, ◌≡◌, List, Option, Some}
+-- How a refusal names what the inputs break: a fault of a file or a line, an empty group, or a knot (docs/COMMANDS.md,
+-- "Rules").
+use Rattle.std.specs.Prelude.{ℕ, ◌≡◌, ◌⊎◌, List, Option, Some}
 use Rattle.dt_lines.specs.declared.line.Position.{Position}
 use Rattle.dt_forms.specs.declared.fault.ModelFault.{ModelFault}
 use Rattle.dt_forms.specs.declared.fault.ModelFault.TheVariants as faults
@@ -7,7 +8,10 @@ use Rattle.dt_forms.specs.declared.source.Source.{Source}
 use Rattle.dt_scope.specs.Patterns.{FlatPattern}
 use Rattle.dt_forms.specs.Rules.{Fault}
 use Rattle.dt_fields.specs.View.{IsDetailWithin}
+use Rattle.dt_fields.specs.declared.rule.Rule.TheVariants as rule
 use Rattle.dt_forms.specs.View.{fault_seen, text_of_file}
+use Rattle.dt_scope.specs.Trees.{Items}
+use Rattle.dt_tree.specs.EmptyGroups.{IsLeastEmpty}
 use Rattle.dt_tree.specs.Refusals.{ShowsFirstKnot}
 use Rattle.dt_tool.specs.Due.{refused}
 use Rattle.dt_tool.specs.Messages as said
@@ -41,14 +45,22 @@ RefusesFault (stops.ReadFault message) names expected = ⊥
 RefusesFault (stops.Refused message) names expected = NamesFault names expected message.items
 RefusesFault stops.NoMemory names expected = Unit {0}
 
--- a text names the members of the first knot of these patterns, by their positions
-pub record NamesKnot (names texts : List (List ℕ)) (ps : List FlatPattern) (text : List ℕ) : Type 0 where
+-- a text names the first group that has no entry, by its position
+pub record NamesEmpty (names texts : List (List ℕ)) (items : Items) (text : List ℕ) : Type 0 where
+  pub position : Position
+  pub least : IsLeastEmpty items position
+  pub shown : text ≡ said.entry_message rule.H1 names texts position
+
+-- a text names the members of the first knot of these entries, by their positions
+pub record NamesKnot (names texts : List (List ℕ)) (ps : List FlatPattern) (items : Items)
+    (text : List ℕ) : Type 0 where
   pub positions : List Position
-  pub first : ShowsFirstKnot ps positions
+  pub first : ShowsFirstKnot ps items positions
   pub shown : text ≡ said.overlap_message names texts positions
 
-abbrev pub RefusesKnot : Stop → List (List ℕ) → List (List ℕ) → List FlatPattern → Type 0
-RefusesKnot stops.Usage names texts ps = ⊥
-RefusesKnot (stops.ReadFault message) names texts ps = ⊥
-RefusesKnot (stops.Refused message) names texts ps = NamesKnot names texts ps message.items
-RefusesKnot stops.NoMemory names texts ps = Unit {0}
+abbrev pub RefusesEntries : Stop → List (List ℕ) → List (List ℕ) → List FlatPattern → Items → Type 0
+RefusesEntries stops.Usage names texts ps items = ⊥
+RefusesEntries (stops.ReadFault message) names texts ps items = ⊥
+RefusesEntries (stops.Refused message) names texts ps items =
+    NamesEmpty names texts items message.items ⊎ NamesKnot names texts ps items message.items
+RefusesEntries stops.NoMemory names texts ps items = Unit {0}

@@ -1,6 +1,6 @@
 //! From the command words to the C text, with all that stops it on the way.
 
-ghost use Rattle.std.specs.Prelude.{◌≡◌, ◌<◌, ◌≤◌, ◌↔◌, ◌∷◌, [], All, Err, None, length, vec_len};
+ghost use Rattle.std.specs.Prelude.{◌≡◌, ◌<◌, ◌≤◌, ◌↔◌, ◌∷◌, [], List, All, Err, None, length, vec_len};
 ghost use Rattle.std.specs.Prelude.{IfErr, IfOk, IfSome, IsSomeAnd, MatchResult, OnOk};
 ghost use Rattle.dt_io.specs.Files.{Held};
 ghost use Rattle.dt_io.specs.Folders.{IsOnlyRead, ReadFailed};
@@ -10,12 +10,15 @@ ghost use Rattle.dt_scope.specs.Options.{IsOptions};
 ghost use Rattle.dt_forms.specs.Rules.{first_fault};
 ghost use Rattle.dt_forms.specs.Sound.{IsSound};
 ghost use Rattle.dt_forms.specs.Sources.{AreSources, IsSourceAt};
-ghost use Rattle.dt_scope.specs.Trees.{entries_of, items_of};
+ghost use Rattle.dt_scope.specs.Patterns.{FlatPattern};
+ghost use Rattle.dt_scope.specs.Trees.{Items, items_of};
 ghost use Rattle.dt_forms.specs.View.{texts_of};
-ghost use Rattle.dt_tree.specs.Knots.{IsParted, patterns_of};
+ghost use Rattle.dt_tree.specs.Entries.{AreInOrder, patterns_of};
+ghost use Rattle.dt_tree.specs.Refusals.{KeepGroupRules, IsRefused};
 ghost use Rattle.dt_tool.specs.Decoders.{IsDecoderOf};
 ghost use Rattle.dt_tool.specs.Due.{IsDue, IsDueOf, input};
-ghost use Rattle.dt_tool.specs.Refusals.{IsFaultWithin, RefusesFault, RefusesKnot, SaysFault};
+ghost use Rattle.dt_tool.specs.Messages as said;
+ghost use Rattle.dt_tool.specs.Refusals.{IsFaultWithin, RefusesEntries, RefusesFault, SaysFault, SaysThis};
 ghost use Rattle.dt_tool.specs.Stops.{AnswersDue, IsForSome, SaysUnread, StopsLoad};
 ghost use Rattle.dt_tool.specs.Words.{file_named, names_seen, texts};
 
@@ -23,9 +26,10 @@ use crate::messages;
 use crate::messages::Inputs;
 use crate::words::file_named;
 use c_writer::text::text;
+use dt_fields::Rule;
 use dt_forms::{MOST_FILES, Model, ModelFault, Options, Source, read_model};
 use dt_io::{Folder, LoadFault, read_all};
-use dt_lines::LARGEST_FILE;
+use dt_lines::{LARGEST_FILE, Position};
 use dt_tree::{Tree, TreeFault};
 use std::alloc::{AllocError, Global};
 use thiserror::Error;
@@ -99,7 +103,7 @@ fn generate_from(alloc: Global, file: &str, bytes: Vec<u8>) -> Result<Vec<u8>, S
         sources: &sources,
     };
     let model = model_of(alloc, &options, inputs)?;
-    refuse_overlaps(alloc, inputs, &model)?;
+    refuse_entries(alloc, inputs, &model)?;
     match text(alloc, &model, &options) {
         Ok(text) => Ok(text),
         Err(_) => Err(Stop::NoMemory),
@@ -155,23 +159,43 @@ fn model_of(alloc: Global, options: &Options, inputs: Inputs) -> Result<Model, S
     }
 }
 
-// Stops where patterns of the inputs overlap.
-fn refuse_overlaps(alloc: Global, inputs: Inputs, model: &Model) -> Result<(), Stop>
-    requires flat { items_of model.now.entries ≡ entries_of (patterns_of model.now) }
+// Stops where a group of the inputs is empty, or entries overlap.
+fn refuse_entries(alloc: Global, inputs: Inputs, model: &Model) -> Result<(), Stop>
+    requires in_order { AreInOrder model.now }
     requires sources { AreSources inputs.sources.now }
-    ensures parted { OnOk result (IsParted (patterns_of model.now)) }
-    ensures stop { IfErr result (λ stop. RefusesKnot stop (names_seen inputs.entry.names.now)
-        (texts_of inputs.entry.sources.now) (patterns_of model.now)) }
+    ensures kept { OnOk result (KeepGroupRules (patterns_of model.now) (items_of model.now.entries)) }
+    ensures stop { IfErr result (λ stop. RefusesEntries stop (names_seen inputs.entry.names.now)
+        (texts_of inputs.entry.sources.now) (patterns_of model.now) (items_of model.now.entries)) }
 {
     match Tree::build(alloc, model) {
         Ok(_) => Ok(()),
-        Err(TreeFault::Knot(positions)) => Err(refusal(messages::overlap_message(
-            alloc,
-            inputs,
-            positions.items(),
-        ))),
-        Err(TreeFault::NoMemory) => Err(Stop::NoMemory),
+        Err(fault) => Err(stop_of_tree(alloc, inputs, fault)),
     }
+}
+
+// What is said of a model that has no tree.
+fn stop_of_tree(alloc: Global, inputs: Inputs, fault: TreeFault) -> Stop
+    requires { AreSources inputs.sources.now }
+    ensures { (ps : List FlatPattern) (items : Items) → IsRefused ps items fault
+        → RefusesEntries result (names_seen inputs.entry.names.now) (texts_of inputs.entry.sources.now) ps items }
+{
+    match fault {
+        TreeFault::Empty(position) => refuse_entry(alloc, inputs, position, Rule::H1),
+        TreeFault::Widths(position) => refuse_entry(alloc, inputs, position, Rule::H3),
+        TreeFault::Knot(positions) => {
+            refusal(messages::overlap_message(alloc, inputs, positions.items()))
+        }
+        TreeFault::NoMemory => Stop::NoMemory,
+    }
+}
+
+// What is said of an entry at this position, which breaks a rule of groups.
+fn refuse_entry(alloc: Global, inputs: Inputs, position: Position, rule: Rule) -> Stop
+    requires { AreSources inputs.sources.now }
+    ensures { SaysThis result (said.entry_message rule (names_seen inputs.entry.names.now)
+        (texts_of inputs.entry.sources.now) position) }
+{
+    refusal(messages::entry_message(alloc, inputs, position, rule))
 }
 
 // A refusal, if there is memory for its message.

@@ -2,6 +2,7 @@
 
 ghost use Rattle.std.specs.Prelude.{◌≡◌, codes, flat_map, IfOk};
 ghost use Rattle.dt_text.specs.Puts.{Puts};
+ghost use Rattle.dt_fields.specs.declared.rule.Rule.TheVariants as rule;
 ghost use Rattle.dt_forms.specs.Sources.{AreSources};
 ghost use Rattle.dt_fields.specs.View.{IsDetailWithin, detail_seen};
 ghost use Rattle.dt_forms.specs.View.{fault_seen, text_of_file, texts_of};
@@ -71,6 +72,22 @@ pub fn fault_message(alloc: Global, inputs: Inputs, fault: &Fault) -> Result<Vec
     out.into_text()
 }
 
+/// What is said of an entry at this position, which breaks a rule of groups.
+pub fn entry_message(
+    alloc: Global,
+    inputs: Inputs,
+    position: Position,
+    rule: Rule,
+) -> Result<Vec<u8>, AllocError>
+    requires { AreSources inputs.sources.now }
+    ensures { IfOk result (λ text. text.items ≡ said.entry_message rule (names_seen inputs.entry.names.now)
+        (texts_of inputs.entry.sources.now) position) }
+{
+    let mut out = GrowingSink::new(alloc);
+    write_entry(&mut out, b"error", inputs, position, rule);
+    out.into_text()
+}
+
 /// What is said of overlaps at these positions: of the first, and a note for each other.
 pub fn overlap_message(
     alloc: Global,
@@ -95,7 +112,7 @@ fn write_overlaps<W: Out>(out: &mut W, inputs: Inputs, positions: &[Position])
     let Some((first, others)) = positions.split_first() else {
         return;
     };
-    write_overlap(out, b"error", inputs, *first);
+    write_entry(out, b"error", inputs, *first, Rule::H2);
     write_notes(out, inputs, others);
 }
 
@@ -104,22 +121,23 @@ fn write_overlaps<W: Out>(out: &mut W, inputs: Inputs, positions: &[Position])
 fn write_notes<W: Out>(out: &mut W, inputs: Inputs, positions: &[Position])
     requires { AreSources inputs.sources.now }
     ensures { Puts (W.state out.old) (W.state out.new) (flat_map
-        (said.overlap_text (codes "note") (names_seen inputs.entry.names.now) (texts_of inputs.entry.sources.now))
+        (said.entry_text (codes "note") rule.H2 (names_seen inputs.entry.names.now)
+        (texts_of inputs.entry.sources.now))
         positions.now) }
 {
     for position in positions {
-        write_overlap(out, b"note", inputs, *position);
+        write_entry(out, b"note", inputs, *position, Rule::H2);
     }
 }
 
-// A line about an overlap at a position.
-fn write_overlap<W: Out>(out: &mut W, kind: &[u8], inputs: Inputs, position: Position)
+// A line about an entry at a position, by a rule of groups.
+fn write_entry<W: Out>(out: &mut W, kind: &[u8], inputs: Inputs, position: Position, rule: Rule)
     requires { AreSources inputs.sources.now }
-    ensures { Puts (W.state out.old) (W.state out.new)
-        (said.overlap_text kind.now (names_seen inputs.entry.names.now) (texts_of inputs.entry.sources.now) position) }
+    ensures { Puts (W.state out.old) (W.state out.new) (said.entry_text kind.now rule
+        (names_seen inputs.entry.names.now) (texts_of inputs.entry.sources.now) position) }
 {
     let token = first_token(inputs.sources, position);
-    write_place(out, kind, inputs, position, Rule::H2);
+    write_place(out, kind, inputs, position, rule);
     write_bytes(out, token);
     write_line_end(out);
 }

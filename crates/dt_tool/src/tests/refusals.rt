@@ -1,8 +1,10 @@
 //! What is refused, and what is said of it: the rules of docs/COMMANDS.md.
 ghost use Rattle.std.specs.Prelude.{◌≤◌, length};
 
+use crate::messages::{Inputs, entry_message, overlap_message};
 use crate::status::{Outcome, Status};
 use crate::tests::runs::{EMPTY_TEXT, check_text, run_gen};
+use dt_fields::Rule;
 use dt_forms::{Options, Source, read_model};
 use dt_lines::{LARGEST_FILE, Position};
 use dt_tree::{PositionList, Tree, TreeFault};
@@ -120,6 +122,25 @@ t:3: note: H2 overlapping: fence_tso
     Ok(())
 }
 
+#[test]
+fn groups_are_named_by_their_opening_tokens(rt: HostRuntime) -> Result<(), Fail> {
+    let alloc = rt.alloc();
+    let text = b"{\n}\n[\n]\n".as_slice();
+    let sources = [Source::read(alloc, 0, Vec::from_slice(alloc, text)?)?];
+    let names = ["t"];
+    let inputs = Inputs {
+        names: &names,
+        sources: &sources,
+    };
+    let [first, second] = [1, 3].map(|line| Position { file: 0, line });
+    let empty = entry_message(alloc, inputs, first, Rule::H1)?;
+    assert_eq!(rt; empty.as_slice(), b"t:1: error: H1 empty group: {\n".as_slice());
+    let knot = overlap_message(alloc, inputs, &[first, second])?;
+    let expected = b"t:1: error: H2 overlapping: {\nt:3: note: H2 overlapping: [\n".as_slice();
+    assert_eq!(rt; knot.as_slice(), expected);
+    Ok(())
+}
+
 // Where the patterns stand that a refusal of a file of this width shows; None where its patterns are parted.
 fn knot_in(alloc: Global, width: Width, text: &[u8]) -> Result<Option<PositionList>, Fail>
     requires { length text.now ≤ LARGEST_FILE }
@@ -135,7 +156,7 @@ fn knot_in(alloc: Global, width: Width, text: &[u8]) -> Result<Option<PositionLi
     match Tree::build(alloc, &model) {
         Ok(_) => Ok(None),
         Err(TreeFault::Knot(positions)) => Ok(Some(positions)),
-        Err(TreeFault::NoMemory) => Err("no memory".into()),
+        Err(_) => Err("another fault".into()),
     }
 }
 

@@ -2,4 +2,4 @@ use Rattle.dt_text.proofs.Putting.{puts_more}
 use Rattle.dt_tool.proofs.messages.write_overlaps.Goals as goal
 
 pub returns : goal.returns
-returns g c = rw c.in-Some.ensures.cases.0 (puts_more c.write_overlap.ensures c.write_notes.ensures)
+returns g c = rw c.in-Some.ensures.cases.0 (puts_more c.write_entry.ensures c.write_notes.ensures)
