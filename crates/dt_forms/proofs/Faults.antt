@@ -1,5 +1,5 @@
 -- The first of all faults, and faults of lines behind others.
-use Rattle.std.proofs.Common.{◌≡◌, ℕ, List, [], ◌∷◌, ◌++◌, map, Option, Some, None, refl, ap, ◌∙◌, sym, append_assoc}
+use Rattle.std.proofs.Common.{◌≡◌, List, [], ◌∷◌, ◌++◌, map, Some, None, refl, ap, ◌∙◌, sym, append_assoc}
 use Rattle.dt_fields.specs.Faults.{Broken, first}
 use Rattle.dt_scope.specs.declared.options.Options.{Options}
 use Rattle.dt_forms.specs.FileLines.{FileLine}

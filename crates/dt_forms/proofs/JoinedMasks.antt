@@ -1,5 +1,5 @@
 -- The masks of a line, joined with those of a format.
-use Rattle.std.proofs.Common.{◌≡◌, ℕ, ◌^◌, ◌<◌, ap, ◌∙◌, sym, arith, bit_and, bit_or}
+use Rattle.std.proofs.Common.{◌≡◌, ℕ, ap, ◌∙◌, sym, arith, bit_and, bit_or}
 use Rattle.std.specs.Prelude.{min, max}
 use Rattle.std.proofs.lemmas.Nat.{or_lt}
 use Rattle.std.specs.Int.{bit_at}

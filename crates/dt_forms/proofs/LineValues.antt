@@ -1,7 +1,6 @@
 -- What a format or pattern line that breaks no rule gives to its arguments.
-use Rattle.std.proofs.Common.{◌≡◌, ◌≢◌, ℕ, suc, zero, ◌+◌, ◌-◌, ◌<◌, ◌≤◌, ◌==◌, ◌||◌, Bool, true, false, List, [], ◌∷◌, ◌++◌, length, get_or, map, Option, Some, None, refl, ap, ◌∙◌, sym, subst, inl, arith}
-use Rattle.std.specs.Prelude.{ℤ, pos, neg_ℤ, ◌≤ℤ◌, ◌^◌, All, AllPairs, IfSome, IsTrue, is_some, nat_eq, nat_le, nat_lt, not}
-use Rattle.std.specs.List.{list_any}
+use Rattle.std.proofs.Common.{◌≡◌, ◌≢◌, ℕ, suc, zero, ◌+◌, ◌-◌, ◌<◌, ◌≤◌, ◌==◌, ◌||◌, Bool, true, false, List, [], ◌∷◌, ◌++◌, length, get_or, Option, Some, None, refl, sym, inl, arith}
+use Rattle.std.specs.Prelude.{pos, neg_ℤ, ◌^◌, All, AllPairs, IfSome, is_some, nat_eq, nat_le, nat_lt, not}
 use Rattle.std.specs.Cmp.Lexicographic.{pointwise}
 use Rattle.std.proofs.Math.Facts.{yes_leb}
 use Rattle.std.proofs.lemmas.Bool.{not-false, or_parts}
@@ -13,7 +12,6 @@ use Rattle.std.proofs.lemmas.Map.Entries.{All-lookup}
 use Rattle.dt_values.specs.Types.{is_text}
 use Rattle.dt_fields.specs.CNames.{IsCName, is_c_name}
 use Rattle.dt_fields.specs.Faults.{Broken, where_broken, token}
-use Rattle.dt_fields.specs.FieldLines.{no_field}
 use Rattle.dt_fields.specs.Segments.{segment_end, segment_length}
 use Rattle.dt_fields.specs.SoundFields.{IsSoundField}
 use Rattle.dt_fields.specs.Tables.{FieldTable, entry_at, is_held}

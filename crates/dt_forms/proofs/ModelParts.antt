@@ -1,13 +1,12 @@
 -- The model that is made of what lines define.
-use Rattle.std.proofs.Common.{◌≡◌, ℕ, List, [], ◌∷◌, length, map, ap, ◌∙◌, sym}
-use Rattle.std.proofs.lemmas.List.{length-map}
+use Rattle.std.proofs.Common.{◌≡◌, ℕ, List, map, ap, ◌∙◌}
 use Rattle.dt_fields.specs.declared.set.SetDef.{SetDef}
 use Rattle.dt_scope.specs.declared.form.Format.{Format}
 use Rattle.dt_scope.specs.declared.form.Pattern.{Pattern}
 use Rattle.dt_forms.specs.declared.model.Model.{Model}
 use Rattle.dt_scope.specs.declared.options.Options.{Options}
 use Rattle.dt_forms.specs.FileLines.{all_lines}
-use Rattle.dt_forms.specs.Models.{Definitions, IsModelOf, IsModelOfScope, definitions_in, definitions_in_scope, flat_list}
+use Rattle.dt_forms.specs.Models.{Definitions, IsModelOf, IsModelOfScope, definitions_in_scope}
 use Rattle.dt_forms.specs.Rules.{scope_before}
 use Rattle.dt_scope.specs.Scope.{Scope}
 use Rattle.dt_forms.specs.View.{pattern_seen}

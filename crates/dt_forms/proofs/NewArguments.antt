@@ -1,8 +1,8 @@
 -- Where an argument is new, no set has exactly the arguments.
-use Rattle.std.proofs.Common.{◌≡◌, ℕ, ◌+◌, ◌&&◌, ◌||◌, Bool, true, false, List, [], ◌∷◌, length, cond, refl, ap, ◌∙◌, arith}
+use Rattle.std.proofs.Common.{◌≡◌, ◌+◌, ◌&&◌, ◌||◌, Bool, true, false, List, [], ◌∷◌, length, cond, refl, ap, ◌∙◌, arith}
 use Rattle.std.specs.Prelude.{not}
 use Rattle.std.proofs.lemmas.Bool.{false≢true}
-use Rattle.std.specs.List.{list_all, list_any, position_or_len}
+use Rattle.std.specs.List.{list_all}
 use Rattle.dt_fields.specs.Arguments.{has_argument}
 use Rattle.dt_fields.specs.SetLines.{has_member}
 use Rattle.dt_fields.specs.declared.set.SetDef.{SetDef}

@@ -1,14 +1,12 @@
 -- Groups that are open: where they open, and that a file that breaks no rule closes them.
-use Rattle.std.proofs.Common.{◌≡◌, ℕ, zero, suc, ◌+◌, ◌-◌, ◌<◌, ◌≤◌, Bool, true, false, List, [], ◌∷◌, ◌++◌, length, get_or, map, take, Option, Some, None, refl, ap, ap₂, ◌∙◌, sym, subst, arith}
-use Rattle.std.specs.Prelude.{not}
+use Rattle.std.proofs.Common.{◌≡◌, ℕ, ◌+◌, ◌-◌, false, List, [], ◌∷◌, ◌++◌, length, get_or, map, Option, Some, None, refl, ap, ap₂, ◌∙◌, sym, subst, arith}
 use Rattle.std.specs.List.{All}
-use Rattle.std.proofs.lemmas.List.{length_push}
-use Rattle.std.proofs.lemmas.List.Elements.{All-head, All-tail, All-nil, All-push, All-take, All-weaker}
+use Rattle.std.proofs.lemmas.List.Elements.{All-head, All-tail, All-nil, All-push, All-take}
 use Rattle.std.proofs.lemmas.Option.{slice_get-get_or}
-use Rattle.dt_lines.specs.Lines.{Line, logical_lines}
+use Rattle.dt_lines.specs.Lines.{logical_lines}
 use Rattle.dt_lines.specs.Spans.{line_seen}
 use Rattle.dt_lines.specs.declared.line.Logical.{Logical}
-use Rattle.dt_fields.specs.Faults.{Broken, token, where_broken}
+use Rattle.dt_fields.specs.Faults.{token, where_broken}
 use Rattle.dt_fields.specs.declared.rule.Rule.TheVariants as rule
 use Rattle.dt_scope.specs.declared.kind.Kind.{Kind}
 use Rattle.dt_scope.specs.declared.kind.Kind.TheVariants.{Brace, Bracket}
@@ -20,11 +18,11 @@ use Rattle.dt_scope.specs.Scope.{Scope, nothing_defined}
 use Rattle.dt_forms.specs.declared.head.Head.{Head}
 use Rattle.dt_forms.specs.declared.head.Head.TheVariants as head
 use Rattle.dt_forms.specs.FileLines.{FileLine, all_lines, file_lines, in_file, line_position, lines_of_files}
-use Rattle.dt_forms.specs.Heads.{head_of, opening_text}
+use Rattle.dt_forms.specs.Heads.{head_of}
 use Rattle.dt_forms.specs.Models.{marks_in_files}
 use Rattle.dt_forms.specs.Positions.{IsFoundOpening, OpensWith, first_token_at, first_token_in, leading_token}
 use Rattle.dt_forms.specs.Rules.{after_head, after_line, after_lines, after_tokens, begun, faults_from, faults_of_file, faults_of_files, unclosed_faults}
-use Rattle.dt_forms.specs.Structure.{closing_rows, extra_rows, indentation_row, is_brace, is_mismatched, is_unopened, structure_rows}
+use Rattle.dt_forms.specs.Structure.{closing_rows, extra_rows, indentation_row, is_mismatched, is_unopened, structure_rows}
 use Rattle.dt_forms.specs.declared.source.Source.{Source}
 use Rattle.dt_forms.specs.Sources.{IsSourceAt}
 use Rattle.dt_forms.proofs.Faults.{after_append, faults_append}

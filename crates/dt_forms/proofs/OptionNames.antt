@@ -1,7 +1,7 @@
 -- Names that options give.
-use Rattle.std.proofs.Common.{◌≤◌, ℕ, List, [], ◌∷◌, ◌++◌, length, refl, ◌∙◌, arith, length-append}
-use Rattle.std.specs.Prelude.{IsTrue, nat_lt, nat_le, codes}
-use Rattle.std.specs.List.{All, list_all}
+use Rattle.std.proofs.Common.{ℕ, List, [], ◌∷◌, length, refl, arith}
+use Rattle.std.specs.Prelude.{IsTrue, nat_lt, nat_le}
+use Rattle.std.specs.List.{list_all}
 use Rattle.std.proofs.lemmas.Bool.Decides.{nat_tests}
 use Rattle.dt_values.specs.Names.{IsName, is_name_byte}
 use Rattle.dt_values.specs.declared.name.TheConstants.{LONGEST_NAME}

@@ -1,5 +1,5 @@
 -- One file more, and what is left of the files.
-use Rattle.std.proofs.Common.{◌≡◌, ℕ, ◌+◌, ◌<◌, List, [], ◌∷◌, ◌++◌, length, map, drop, get_or, Option, Some, ap, ◌∙◌, sym, subst}
+use Rattle.std.proofs.Common.{◌≡◌, ℕ, ◌+◌, ◌<◌, List, [], ◌∷◌, ◌++◌, length, drop, get_or, ap, ◌∙◌, sym, subst}
 use Rattle.std.proofs.lemmas.List.{drop_more, get_or-map}
 use Rattle.dt_fields.specs.Faults.{first}
 use Rattle.dt_forms.specs.declared.fault.ModelFault.{ModelFault}

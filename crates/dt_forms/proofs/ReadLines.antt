@@ -1,5 +1,5 @@
 -- One line more of a file, and what is left of the file.
-use Rattle.std.proofs.Common.{◌≡◌, ℕ, ◌+◌, ◌<◌, List, [], ◌∷◌, ◌++◌, length, map, drop, get_or, Some, refl, ap, ◌∙◌, sym, subst}
+use Rattle.std.proofs.Common.{◌≡◌, ℕ, ◌+◌, ◌<◌, List, [], ◌∷◌, ◌++◌, length, map, drop, get_or, refl, ap, ◌∙◌, sym, subst}
 use Rattle.std.proofs.lemmas.List.{drop_more}
 use Rattle.dt_lines.specs.Spans.{line_seen}
 use Rattle.dt_lines.specs.declared.line.Logical.{Logical}

@@ -1,12 +1,10 @@
 -- Two lists of the same names, none twice, are the same but for their order.
-use Rattle.std.proofs.Common.{◌≡◌, ◌≢◌, ℕ, zero, suc, ◌<◌, Bool, true, false, nat_eq, List, [], ◌∷◌, length, get_or, refl, ap, ◌∙◌, sym, subst, arith}
-use Rattle.std.specs.Prelude.{All}
-use Rattle.std.specs.List.{AllByRecursion, AllPairs, Contains, IsDistinct, list_any, remove}
+use Rattle.std.proofs.Common.{◌≡◌, ◌≢◌, ℕ, zero, suc, true, false, List, [], ◌∷◌, refl, ap, ◌∙◌, sym, arith}
+use Rattle.std.specs.List.{AllByRecursion, Contains, IsDistinct, list_any, remove}
 use Rattle.std.specs.List.Sorted.{IsPermutation}
-use Rattle.std.specs.Cmp.Lexicographic.{pointwise, nat_list_eq_equiv, same_text, other_text}
+use Rattle.std.specs.Cmp.Lexicographic.{nat_list_eq_equiv, same_text, other_text}
 use Rattle.std.proofs.lemmas.List.Sorted.{Contains-permutation, IsPermutation-cons, IsPermutation-refl, IsPermutation-remove, IsPermutation-sym, IsPermutation-trans}
 use Rattle.std.proofs.lemmas.Map.Keys.{IsDistinct-IsPermutation, IsDistinct-head, IsDistinct-tail}
-use Rattle.std.proofs.lemmas.Map.Made.{IsDistinct-from_AllPairs}
 use Rattle.std.proofs.lemmas.Map.Views.{Contains-from_any}
 use Rattle.dt_values.specs.Types.{is_text}
 

@@ -21,7 +21,7 @@ use Rattle.dt_fields.specs.declared.set.SetDef.{SetDef}
 use Rattle.dt_fields.specs.FieldLines.{line_field}
 use Rattle.dt_fields.specs.declared.field.FieldDef.{FieldDef}
 use Rattle.dt_fields.specs.SetLines.{begins_set, has_member, is_taken, line_set, set_line_faults}
-use Rattle.dt_fields.specs.Faults.{Broken, where_broken, named, nothing, token, number}
+use Rattle.dt_fields.specs.Faults.{where_broken, named, nothing, token, number}
 use Rattle.dt_fields.specs.declared.rule.Rule.TheVariants as rule
 use Rattle.dt_fields.specs.SetsByName.{set_at}
 use Rattle.dt_fields.specs.SoundSets.{IsSoundSet}
@@ -54,7 +54,7 @@ use Rattle.dt_forms.specs.LineArguments.{argument_rows, format_argument_rows, ou
 use Rattle.dt_forms.specs.LineBits.{base_rows, base_values, bits_with_base, fields_with_base, left_rows, meeting_rows, shared_bits_row}
 use Rattle.dt_forms.specs.LineNames.{has_other_set, is_set_name_taken, name_rows, names_other_set, new_name_row, new_name_rows, own_name_rows, set_number}
 use Rattle.dt_forms.specs.PatternLines.{after_pattern, mask_rows, pattern_faults, pattern_of, scope_with_pattern, whole_rows}
-use Rattle.dt_forms.specs.Rules.{after_closing, after_head, after_line, after_lines, after_opening, after_tokens, definition_faults, faults_from, faults_in, faults_of_line, head_faults}
+use Rattle.dt_forms.specs.Rules.{after_closing, after_head, after_line, after_lines, after_opening, after_tokens, faults_from, faults_in, faults_of_line, head_faults}
 use Rattle.dt_forms.specs.Structure.{extra_rows, indentation_row, opening_rows, pattern_row, structure_rows}
 use Rattle.dt_forms.specs.Sound.{AreMasks, HaveOneSet, IsSoundValue, given_names}
 use Rattle.dt_forms.proofs.Additions.{FormatsDiffer, IsFormatChosen, IsSetChosen, IsSoundFormat, IsSoundOf, SetsDiffer, choose_format, choose_set, format_kept, kept_by_formats, kept_by_sets, members_at, names_differ_more, one_set_more, same_set, set_number_kept, set_within, values_at}

@@ -1,9 +1,8 @@
 -- The model of files that break no rule is sound.
-use Rattle.std.proofs.Common.{◌≡◌, ◌≢◌, ℕ, zero, suc, ◌+◌, ◌*◌, ◌^◌, ◌<◌, ◌≤◌, List, [], ◌∷◌, ◌++◌, length, get_or, map, None, refl, ap, ap₂, ◌∙◌, sym, subst, arith, add-one, bit_and}
+use Rattle.std.proofs.Common.{◌≡◌, ◌≢◌, ℕ, ◌*◌, ◌^◌, ◌<◌, ◌≤◌, List, length, get_or, map, None, refl, ap, ap₂, ◌∙◌, sym, subst, arith, bit_and}
 use Rattle.std.proofs.lemmas.Nat.{and_le_r}
 use Rattle.std.specs.List.{All, AllPairs}
-use Rattle.std.proofs.lemmas.List.{get_or-map, length-map}
-use Rattle.std.proofs.lemmas.List.Elements.{All-nil, All-cons, All-map, All-same, All-weaker}
+use Rattle.std.proofs.lemmas.List.Elements.{All-map, All-same, All-weaker}
 use Rattle.dt_values.specs.Names.{IsName}
 use Rattle.dt_values.specs.Widths.{width_bits}
 use Rattle.dt_lines.specs.declared.line.Position.{Position}
@@ -18,7 +17,7 @@ use Rattle.dt_forms.specs.FileLines.{FileLine, all_lines}
 use Rattle.dt_forms.specs.Models.{Definitions, IsModelOf, definitions_in, definitions_of, flat_list}
 use Rattle.dt_scope.specs.Options.{IsOptionName}
 use Rattle.dt_scope.specs.Patterns.{FlatPattern, position_of}
-use Rattle.dt_forms.specs.Positions.{first_token_at, leading_token}
+use Rattle.dt_forms.specs.Positions.{first_token_at}
 use Rattle.dt_forms.specs.Rules.{faults_of_files, first_fault, scope_before}
 use Rattle.dt_scope.specs.Scope.{Scope, nothing_defined}
 use Rattle.dt_forms.specs.Sound.{AreSoundValues, FormatHasMasks, GivesArguments, HasMasks, HaveOneSet, IsBefore, IsEarlier, IsSound, IsSoundPattern, pattern_position, positions_of}

@@ -1,7 +1,7 @@
 -- The values of a pattern that takes a format by inference: the format's fields and its own constants.
-use Rattle.std.proofs.Common.{◌≡◌, ◌≢◌, ℕ, ◌<◌, ◌==◌, ◌&&◌, ◌||◌, Bool, true, false, List, [], ◌∷◌, ◌++◌, length, get_or, map, filter, refl, ap, ◌∙◌, sym, subst}
+use Rattle.std.proofs.Common.{◌≡◌, ◌≢◌, ℕ, ◌&&◌, ◌||◌, Bool, true, false, List, [], ◌∷◌, ◌++◌, get_or, refl, ◌∙◌, sym, subst}
 use Rattle.std.specs.Prelude.{not}
-use Rattle.std.specs.List.{All, AllPairs, Contains, IsDistinct, list_all, list_any}
+use Rattle.std.specs.List.{All, AllPairs, Contains, IsDistinct, list_all}
 use Rattle.std.specs.List.Sorted.{IsPermutation}
 use Rattle.std.proofs.lemmas.Bool.{and_parts}
 use Rattle.std.proofs.lemmas.List.{map-append}
@@ -16,7 +16,7 @@ use Rattle.dt_scope.specs.declared.form.Format.{Format}
 use Rattle.dt_scope.specs.declared.value.FieldValue.{FieldValue}
 use Rattle.dt_scope.specs.declared.value.FieldValue.TheVariants.{Field, Constant}
 use Rattle.dt_scope.specs.ElementRows.{has_value}
-use Rattle.dt_forms.specs.Inference.{constants_of, fields_of, fits_pattern, gives, has_fields_of, is_constant, same_value}
+use Rattle.dt_forms.specs.Inference.{constants_of, fields_of, gives, has_fields_of, is_constant, same_value}
 use Rattle.dt_forms.proofs.Arguments.{name_holds, names_differ, value_names, value_there}
 use Rattle.dt_forms.proofs.SameNames.{same_names, text_decides}
 

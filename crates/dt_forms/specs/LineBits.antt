@@ -1,5 +1,5 @@
 -- The rules of a line's bits, as scripts/decodetree.py checks them.
-use Rattle.std.specs.Prelude.{ℕ, ◌==◌, ◌&&◌, Bool, not, bit_and, bit_or, List, [], ◌∷◌, ◌++◌, Option, Some, None}
+use Rattle.std.specs.Prelude.{ℕ, ◌==◌, ◌&&◌, not, bit_and, bit_or, List, [], ◌∷◌, ◌++◌, Option, Some, None}
 use Rattle.dt_fields.specs.declared.rule.Rule.{Rule}
 use Rattle.dt_fields.specs.declared.rule.Rule.TheVariants as rule
 use Rattle.dt_fields.specs.Faults.{Broken, where_broken, mask, named}

@@ -1,6 +1,6 @@
 -- The rules of pattern lines, and what they define (docs/devel/decodetree.rst, "Patterns"). The order of the rules is this
 -- project's.
-use Rattle.std.specs.Prelude.{ℕ, ◌==◌, ◌&&◌, Bool, false, not, is_some, List, [], ◌∷◌, ◌++◌, length, slice_get, Option, Some, None}
+use Rattle.std.specs.Prelude.{ℕ, ◌==◌, ◌&&◌, false, not, is_some, List, [], ◌∷◌, ◌++◌, length, slice_get, Option, Some, None}
 use Rattle.dt_values.specs.Widths.{width_bits}
 use Rattle.dt_fields.specs.declared.rule.Rule.TheVariants as rule
 use Rattle.dt_fields.specs.Faults.{Broken, where_broken, nothing, number}

@@ -2,7 +2,7 @@
 -- project's.
 use Rattle.std.specs.Prelude.{ℕ, ◌+◌, ◌-◌, List, [], ◌∷◌, ◌++◌, length, map, take, Option, Some, None}
 use Rattle.dt_values.specs.Widths.{width_bits}
-use Rattle.dt_lines.specs.Lines.{Line, logical_lines, physical_lines}
+use Rattle.dt_lines.specs.Lines.{Line, physical_lines}
 use Rattle.dt_lines.specs.declared.line.Position.{Position}
 use Rattle.dt_fields.specs.declared.rule.Rule.TheVariants as rule
 use Rattle.dt_fields.specs.Faults.{Broken, token, first}

@@ -1,6 +1,6 @@
 -- Fields that lie in a word of 64 bits.
 use Rattle.std.proofs.Common.{◌≡◌, ℕ, ◌≤◌, List, [], ◌∷◌, ◌++◌, IsTrue, Ok, Err, OnOk, OnErr, subst, sym, arith}
-use Rattle.std.specs.Prelude.{All, Result}
+use Rattle.std.specs.Prelude.{Result}
 use Rattle.std.proofs.lemmas.List.Elements.{All-push, All-weaker}
 use Rattle.dt_values.specs.Widths.{width_bits}
 use Rattle.dt_values.specs.declared.width.Width.{Width}
@@ -9,7 +9,6 @@ use Rattle.dt_fields.specs.Segments.{segment_end}
 use Rattle.dt_fields.specs.SoundFields.{IsSoundField}
 use Rattle.dt_fields.specs.Tables.{FieldTable}
 use Rattle.dt_fields.specs.declared.field.FieldDef.{FieldDef}
-use Rattle.dt_fields.specs.declared.segment.Segment.{Segment}
 use Rattle.dt_fields.specs.declared.fault.DefFault.{DefFault}
 use Rattle.dt_fields.proofs.KeptFields.{unbroken_field_is_sound}
 use Rattle.dt_scope.specs.Fitting.{FieldFits, FieldsFit, ValueFits, ValuesFit}

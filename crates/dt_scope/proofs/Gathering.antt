@@ -1,20 +1,17 @@
 -- What a reader of a format or pattern line has read of its tokens.
-use Rattle.std.proofs.Common.{◌≡◌, ℕ, ◌+◌, ◌<◌, List, ◌∷◌, length, map, drop, get_or, ap, ◌∙◌, sym, subst, append_assoc, Bool, ◌==◌, ◌||◌}
-use Rattle.std.specs.Prelude.{nat_lt, not}
-use Rattle.dt_fields.specs.declared.rule.Rule.TheVariants as rule
-use Rattle.dt_fields.specs.CNames.{is_c_name}
+use Rattle.std.proofs.Common.{◌≡◌, ℕ, ◌+◌, ◌<◌, List, ◌∷◌, length, map, drop, get_or, ap, ◌∙◌, sym, subst, Bool}
 use Rattle.std.proofs.lemmas.List.{drop_more}
 use Rattle.dt_lines.specs.Spans.{text_at}
 use Rattle.dt_lines.specs.declared.line.Span.{Span}
 use Rattle.dt_fields.specs.declared.fault.DefFault.{DefFault}
-use Rattle.dt_fields.specs.Faults.{Broken, token, where_broken}
+use Rattle.dt_fields.specs.Faults.{Broken}
 use Rattle.dt_fields.specs.View.{DefBroken}
 use Rattle.dt_fields.proofs.FirstFaults.{broken_prefix}
 use Rattle.dt_scope.specs.declared.gather.Gathered.{Gathered}
 use Rattle.dt_scope.specs.Scope.{Scope}
-use Rattle.dt_scope.specs.Elements.{element_of, in_place}
+use Rattle.dt_scope.specs.Elements.{element_of}
 use Rattle.dt_scope.specs.Gathering.{given}
-use Rattle.dt_scope.specs.ElementRows.{element_rows, element_faults, place_rows, value_rows}
+use Rattle.dt_scope.specs.ElementRows.{element_rows, element_faults}
 
 -- a refused token refuses the line
 pub broken_here : (in_format : Bool) (width : ℕ) (scope : Scope) (bytes : List ℕ) (before : Gathered) (tokens : List Span) (i : ℕ) (t d : Span) (fault : DefFault) (all : List Broken) → i < length tokens → t ≡ get_or tokens i d

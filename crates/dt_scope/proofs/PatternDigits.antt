@@ -1,5 +1,5 @@
 -- The digits of a pattern, one behind the other and token by token.
-use Rattle.std.proofs.Common.{◌≡◌, ℕ, ◌+◌, ◌-◌, ◌*◌, ◌^◌, List, [], ◌∷◌, ◌++◌, length, refl, ap, sym, ◌∙◌, append_assoc, append-nil, arith, add_assoc}
+use Rattle.std.proofs.Common.{◌≡◌, ℕ, ◌+◌, ◌-◌, ◌*◌, ◌^◌, List, [], ◌∷◌, ◌++◌, length, refl, ap, sym, ◌∙◌, append_assoc, append-nil, arith}
 use Rattle.std.proofs.lemmas.List.{length_push}
 use Rattle.dt_scope.specs.declared.bits.Bits.{Bits}
 use Rattle.dt_scope.specs.Bits.{bits_at_top, bits_of, fixed_digit, ignored_digit, number_at_top, number_of, one_digit, with_digit, with_digits}

@@ -1,8 +1,6 @@
 -- One line more of those that entries are.
-use Rattle.std.proofs.Common.{◌≡◌, ℕ, List, [], ◌∷◌, ◌++◌, ◌-◌, length, map, refl, Option, Some, None, Bool, false, true≢false, arith, ◌+◌, ap, ◌∙◌, sym, rules, append_assoc}
-use Rattle.std.specs.Prelude.{Vec}
-use Rattle.std.specs.declared.alloc.Global.{Global}
-use Rattle.std.proofs.lemmas.List.{append-nil, map_push, length_push, length-map, get_or_push}
+use Rattle.std.proofs.Common.{◌≡◌, ℕ, List, [], ◌∷◌, ◌++◌, ◌-◌, length, map, refl, Some, arith, ◌+◌, ap, ◌∙◌, sym, rules, append_assoc}
+use Rattle.std.proofs.lemmas.List.{append-nil, map_push, length_push, get_or_push}
 use Rattle.std.proofs.lemmas.Option.{slice_get-get_or}
 use Rattle.std.specs.Option.{option_map}
 use Rattle.dt_scope.specs.declared.kind.Kind.{Kind}
@@ -11,7 +9,7 @@ use Rattle.dt_scope.specs.declared.kind.Kind.TheVariants.{Brace, Bracket}
 use Rattle.dt_scope.specs.declared.entry.Entry.{Entry, One, Overlap, Exclusive, the_lemmas}
 use Rattle.dt_scope.specs.declared.entry.Group.{Group}
 use Rattle.dt_scope.specs.declared.groups.Open.{Open}
-use Rattle.dt_scope.specs.Trees.{Item, one, overlap, exclusive, cluster, Items, item_of, items_of, grouped}
+use Rattle.dt_scope.specs.Trees.{one, overlap, exclusive, cluster, Items, item_of, items_of, grouped}
 use Rattle.dt_scope.specs.Marks.{Mark, opens, closes, pattern_mark, spelled, spelled_item}
 use Rattle.dt_scope.specs.Groups.{innermost, innermost_kind, spelled_open, spelled_groups}
 

@@ -1,5 +1,5 @@
 -- What the open groups and the entries stand for.
-use Rattle.std.specs.Prelude.{ℕ, ◌-◌, List, [], ◌∷◌, ◌++◌, length, map, slice_get, Option}
+use Rattle.std.specs.Prelude.{◌-◌, List, [], ◌∷◌, ◌++◌, length, map, slice_get, Option}
 use Rattle.std.specs.Option.{option_map}
 use Rattle.dt_scope.specs.declared.kind.Kind.{Kind}
 use Rattle.dt_scope.specs.declared.kind.Opening.{Opening}

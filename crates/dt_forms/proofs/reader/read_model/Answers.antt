@@ -1,11 +1,11 @@
-use Rattle.std.proofs.Common.{◌≡◌, ◌≤◌, [], length, subst, sym, ap}
+use Rattle.std.proofs.Common.{◌≤◌, length, subst, sym}
 use Rattle.std.proofs.lemmas.List.{length-map}
 use Rattle.dt_forms.specs.Models.{IsModelOf}
 use Rattle.dt_forms.specs.View.{texts_of}
 use Rattle.dt_forms.proofs.ModelParts.{model_of_files}
 use Rattle.dt_forms.proofs.ReadSources.{sources_short}
 use Rattle.dt_forms.proofs.Soundness.{sound_model}
-use Rattle.dt_forms.specs.declared.reader.TheConstants.{MOST_FILES, MOST_PATTERNS}
+use Rattle.dt_forms.specs.declared.reader.TheConstants.{MOST_FILES}
 use Rattle.dt_forms.specs.declared.source.Source.{Source}
 use Rattle.dt_forms.proofs.reader.read_model.Goals as goal
 

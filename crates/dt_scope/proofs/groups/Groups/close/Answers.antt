@@ -1,4 +1,4 @@
-use Rattle.std.proofs.Common.{ap, sym, ◌∙◌, ◌++◌, ◌∷◌, []}
+use Rattle.std.proofs.Common.{ap, ◌∙◌, ◌++◌, ◌∷◌, []}
 use Rattle.dt_scope.specs.Trees.{items_of, grouped}
 use Rattle.dt_scope.proofs.Spelling.{closed, same_kind}
 use Rattle.dt_scope.proofs.groups.Groups.close.Goals as goal
