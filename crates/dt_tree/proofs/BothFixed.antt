@@ -1,13 +1,12 @@
 -- What two patterns fix alike.
-use Rattle.std.proofs.Common.{ℕ, ◌≡◌, ◌≢◌, ◌+◌, ◌-◌, ◌<◌, ◌≤◌, ◌^◌, List, ◌∷◌, [], ◌++◌, length, refl, sym, ◌∙◌, ap, subst, arith, inl, inr}
-use Rattle.std.specs.Prelude.{Contains, bit_and, bit_xor, min, ◌%◌}
+use Rattle.std.proofs.Common.{ℕ, ◌≡◌, ◌+◌, ◌-◌, ◌<◌, ◌^◌, sym, ◌∙◌, ap, arith, inl, inr}
+use Rattle.std.specs.Prelude.{bit_and, bit_xor, min, ◌%◌}
 use Rattle.std.specs.Int.{bit_at, bit_not, w64}
 use Rattle.std.proofs.lemmas.Bool.{cases_lt}
 use Rattle.std.proofs.lemmas.Nat.{xor_lt}
 use Rattle.std.proofs.lemmas.Nat.Bits.{bit_at_and, bit_at_not, bit_at_xor, bit_at-lt, bit_at_above}
 use Rattle.dt_scope.specs.Patterns.{FlatPattern}
 use Rattle.dt_tree.specs.Entries.{nothing}
-use Rattle.dt_tree.specs.Knots.{FixesTo}
 use Rattle.dt_tree.specs.Commons.{IsJoin}
 
 -- `m & n & !(a ^ c)`
