@@ -1,10 +1,12 @@
 //! Refusals of groups: their lines, empty groups, and entries that aren't told apart.
 use crate::tests::runs::{check_text, run_gen};
+use std::alloc::{AllocError, AllocGlobal, Global};
 use std::fmt::Write;
+use std::process::Abort;
 use std::test::Fail;
 
 // Each of these texts is refused with this message.
-fn check_refusals(rt: &HostRuntime, table: &[(&str, &str)]) -> Result<(), Fail> {
+fn check_refusals(rt: &(impl Abort + AllocGlobal), table: &[(&str, &str)]) -> Result<(), Fail> {
     for (text, err) in table {
         check_text(rt, text.as_bytes(), 1, b"", err.as_bytes())?;
     }
@@ -37,8 +39,8 @@ fn lines_of_groups_that_break_a_rule(rt: HostRuntime) -> Result<(), Fail> {
 }
 
 // The lines that open so many groups in braces, each inside the last.
-fn opened(rt: &HostRuntime, depth: usize) -> Result<String, Fail> {
-    let mut text = String::new(rt.alloc());
+fn opened(alloc: Global, depth: usize) -> Result<String, AllocError> {
+    let mut text = String::new(alloc);
     for level in 0..depth {
         for _ in 0..level {
             text.push_str("  ")?;
@@ -50,7 +52,7 @@ fn opened(rt: &HostRuntime, depth: usize) -> Result<String, Fail> {
 
 #[test]
 fn seventeen_groups_are_one_too_many(rt: HostRuntime) -> Result<(), Fail> {
-    let text = opened(&rt, 16)?;
+    let text = opened(rt.alloc(), 16)?;
     check_text(
         &rt,
         text.as_bytes(),
@@ -58,7 +60,7 @@ fn seventeen_groups_are_one_too_many(rt: HostRuntime) -> Result<(), Fail> {
         b"",
         b"t:16: error: L6 missing close: {\n",
     )?;
-    let text = opened(&rt, 17)?;
+    let text = opened(rt.alloc(), 17)?;
     check_text(
         &rt,
         text.as_bytes(),

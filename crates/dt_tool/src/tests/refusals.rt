@@ -134,7 +134,10 @@ fn groups_are_named_by_their_opening_tokens(rt: HostRuntime) -> Result<(), Fail>
     };
     let [first, second] = [1, 3].map(|line| Position { file: 0, line });
     let empty = entry_message(alloc, inputs, first, Rule::H1)?;
-    assert_eq!(rt; empty.as_slice(), b"t:1: error: H1 empty group: {\n".as_slice());
+    assert_eq!(rt;
+        empty.as_slice(),
+        b"t:1: error: H1 empty group: {\n".as_slice()
+    );
     let knot = overlap_message(alloc, inputs, &[first, second])?;
     let expected = b"t:1: error: H2 overlapping: {\nt:3: note: H2 overlapping: [\n".as_slice();
     assert_eq!(rt; knot.as_slice(), expected);
@@ -168,6 +171,16 @@ fn words_of_16_bits_are_told_apart_too(rt: HostRuntime) -> Result<(), Fail> {
     assert_eq!(rt; positions.items(), expected.as_slice());
     let two = b"a 0-1 -------------\nb 11- -------------\n".as_slice();
     assert!(rt; knot_in(rt.alloc(), Width::W16, two)?.is_none());
+    let groups = b"{
+  [
+    x 00000000 00000000
+    y 00000000 00000001
+  ]
+  z 00000000 --------
+}
+"
+        .as_slice();
+    assert!(rt; knot_in(rt.alloc(), Width::W16, groups)?.is_none());
     Ok(())
 }
 
