@@ -1,0 +1,9 @@
+pub mod LowBits
+pub mod Joining
+pub mod HeldItems
+pub mod GivenNumbers
+pub mod SoundPatterns
+pub mod TrialSteps
+pub mod AlikeTrials
+pub mod ScriptCalls
+pub mod Readable
