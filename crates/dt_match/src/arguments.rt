@@ -13,8 +13,8 @@ use crate::host::Host;
 use dt_scope::FieldValue;
 use dt_values::{Member, Name, Values};
 
-/// What the arguments of a set hold on a word, by what a format and then a pattern give them. Those that refer to others
-/// are read again until nothing changes.
+/// What the arguments of a set hold on a word, by what a format and then a pattern give them. All are read again until
+/// nothing changes, as some may refer to others.
 pub(crate) fn values_on<'a, H: Host>(
     members: &'a [Member],
     kept: &[(Name, FieldValue)],
