@@ -4,7 +4,7 @@ mod echo;
 
 ghost use Rattle.std.specs.Prelude.{◌≡◌, ◌+◌, ◌≤◌, IfOk, length};
 ghost use Rattle.dt_fields.specs.Segments.{segment_end, segment_length};
-ghost use Rattle.dt_fields.specs.declared.segment.Segment.TheVariants.{Bits};
+ghost use Rattle.dt_fields.specs.declared.segment.Segment.TheVariants.{Bits, Named};
 ghost use Rattle.dt_forms.specs.Sound.{IsSound};
 ghost use Rattle.dt_match.specs.Readable.{IsReadable};
 ghost use Rattle.dt_scope.specs.Options.{IsOptions};
@@ -111,6 +111,16 @@ fn bits(pos: u8, length: u8, signed: bool) -> Segment
     }
 }
 
+fn named(name: Name, length: u8, signed: bool) -> Segment
+    ensures { result ≡ Named name length signed }
+{
+    Segment::Named {
+        name,
+        length,
+        signed,
+    }
+}
+
 #[test]
 fn the_first_segment_is_the_highest(rt: HostRuntime) -> Result<(), Fail> {
     let imm = name(b"imm")?;
@@ -123,14 +133,9 @@ fn the_first_segment_is_the_highest(rt: HostRuntime) -> Result<(), Fail> {
     let values = Values::stored(&members, &numbers);
     let of_word = field(rt.alloc(), bits(31, 1, true), bits(0, 4, false))?;
     assert_eq!(rt; raw(&of_word, 0x8000_0007, &values), -9);
-    let named = Segment::Named {
-        name: imm,
-        length: 4,
-        signed: true,
-    };
-    let signed = field(rt.alloc(), named, bits(0, 4, false))?;
+    let signed = field(rt.alloc(), named(imm, 4, true), bits(0, 4, false))?;
     assert_eq!(rt; raw(&signed, 7, &values), -57);
-    let unsigned = field(rt.alloc(), bits(0, 4, false), named)?;
+    let unsigned = field(rt.alloc(), bits(0, 4, false), named(imm, 4, true))?;
     assert_eq!(rt; raw(&unsigned, 7, &values), 124);
     Ok(())
 }
