@@ -13,3 +13,5 @@ pub mod GivenParts
 pub mod GivenOnce
 pub mod Chains
 pub mod Models
+pub mod TextRuns
+pub mod CallSites

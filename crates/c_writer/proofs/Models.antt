@@ -192,7 +192,7 @@ set_there sets n differ below =
     ∙ ap (option_map (λ (s : SetDef). s.members)) (found_at sets n no_set differ below)
     ∙ ap Some (sym (get_or-map (λ (s : SetDef). s.members) sets n no_set [] below))
 
-sound_parts : (options : Options) (model : Model) → IsOptions options → model.width ≡ options.width → IsSound model → AreSound (parts_of options (definitions_in model))
+pub sound_parts : (options : Options) (model : Model) → IsOptions options → model.width ≡ options.width → IsSound model → AreSound (parts_of options (definitions_in model))
 sound_parts options model asked width s = record {
   decoder_named = option_named options.decode asked.decode;
   prefix_named = option_named options.translate asked.translate;
@@ -295,7 +295,7 @@ own_room_sound options model width s =
     subst (λ w. All (PatternHasRoom (helper_bits w)) model.patterns) width
     (λ k d below. have_room model.width (get_or model.patterns k d).values (s.pattern_values k d below))
 
-trials_of_parts : (sets : List SetDef) (formats : List Format) (ps : List Pattern) → map (λ q. q.trial) (map (named_pattern sets formats) ps) ≡ map (trial_pattern sets formats) ps
+pub trials_of_parts : (sets : List SetDef) (formats : List Format) (ps : List Pattern) → map (λ q. q.trial) (map (named_pattern sets formats) ps) ≡ map (trial_pattern sets formats) ps
 trials_of_parts sets formats [] = refl
 trials_of_parts sets formats (p ∷ ps) = ap (λ l. trial_pattern sets formats p ∷ l) (trials_of_parts sets formats ps)
 
