@@ -1,13 +1,13 @@
 -- The expression of a field has the field's value.
 use Rattle.std.proofs.Common.{◌≡◌, ℕ, ◌+◌, ◌-◌, ◌*◌, ◌/◌, ◌%◌, ◌^◌, ◌<◌, ◌≤◌, Bool, true, false, cond, ◌&&◌}
 use Rattle.std.proofs.Common.{List, [], ◌∷◌, ℤ, pos, Option, Some, None, option_map, option_and_then}
-use Rattle.std.proofs.Common.{refl, sym, ap, ap₂, subst, ◌∙◌, arith, pow_mono, mod-eq_of_lt, div-one}
+use Rattle.std.proofs.Common.{refl, sym, ap, ap₂, subst, ◌∙◌, arith, pow_mono, mod-eq_of_lt}
 use Rattle.std.specs.List.{All}
 use Rattle.std.proofs.lemmas.List.Elements.{All-head, All-tail, All-weaker}
 use Rattle.std.proofs.lemmas.List.Sums.{sum_by-cons}
 use Rattle.std.proofs.lemmas.Bool.{le-leb}
 use Rattle.std.proofs.Math.Nat.{div-eq_of_lt}
-use Rattle.dt_values.specs.BitFields.{bits_at, signed, deposited, residue}
+use Rattle.dt_values.specs.BitFields.{signed, deposited, residue}
 use Rattle.dt_values.specs.Widths.{width_bits}
 use Rattle.dt_values.specs.declared.width.Width.{Width}
 use Rattle.dt_values.specs.declared.width.Width.TheVariants.{W16, W32, W64}
@@ -25,7 +25,8 @@ use Rattle.c_eval.specs.Meaning.{Place, helper_bits, lies_in, guarded, extracted
 use Rattle.c_fields.specs.Values.{KeepsValueRules, ShowsValue}
 use Rattle.c_fields.specs.Written.{segment_term, folded, joined_term, applied_term, field_term, value_term, IsShown, Shows}
 use Rattle.dt_values.proofs.Parts.{bits_below, residue_below, place_below}
-use Rattle.c_fields.proofs.Signs.{spread, residue_of_signed, signed_of_spread, spread_below, spread_low, spread_joined, residue_low}
+use Rattle.c_fields.proofs.Signs.{spread, residue_of_signed, signed_of_spread, spread_below, spread_low, spread_joined}
+use Rattle.dt_match.proofs.LowBits.{low_of_residue}
 
 -- ---- bits that lie in a word
 lies : (n start len : ℕ) → 1 ≤ len → start + len ≤ n → lies_in n start len ≡ true
@@ -39,9 +40,6 @@ abbrev segment_number : (List ℕ → ℤ) → ℕ → Segment → ℤ
 segment_number held word s =
     cond (has_sign s) (signed (segment_length s) (segment_bits held word s)) (pos (segment_bits held word s))
 
-whole_argument : (n len : ℕ) (z : ℤ) → len ≤ n → bits_at (residue n z) 0 len ≡ residue len z
-whole_argument n len z h = ap (λ x. x % 2 ^ len) (div-one (residue n z)) ∙ residue_low n len z h
-
 segment_is : (set : Option (List ℕ)) (at : Place) (held : List ℕ → ℤ) (s : Segment)
     → at.word < 2 ^ at.bits → segment_end s ≤ at.bits → 1 ≤ segment_length s → IsShown set at held s
     → value_at at (segment_term set s) ≡ Some (segment_number held at.word s)
@@ -51,7 +49,7 @@ segment_is set at held (Bits p l sign) small inside some shown =
 segment_is set at held (Named name l sign) small inside some shown =
     ap (option_and_then (extract_value at.bits sign 0 l)) shown
     ∙ inside_word at.bits 0 l _ some (omega arith)
-    ∙ ap (λ x. Some (cond sign (signed l x) (pos x))) (whole_argument at.bits l (held name) inside)
+    ∙ ap (λ x. Some (cond sign (signed l x) (pos x))) (low_of_residue at.bits l (held name) inside)
 
 segment_bits_below : (held : List ℕ → ℤ) (word : ℕ) (s : Segment) → segment_bits held word s < 2 ^ segment_length s
 segment_bits_below held word (Bits p l sign) = bits_below word p l

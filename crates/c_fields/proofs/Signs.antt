@@ -1,12 +1,13 @@
 -- Signed numbers of some bits, as words of more bits.
-use Rattle.std.proofs.Common.{◌≡◌, ℕ, suc, ◌+◌, ◌-◌, ◌*◌, ◌/◌, ◌%◌, ◌^◌, ◌<◌, ◌≤◌, Bool, true, false, cond, ℤ, pos, negsuc, ◌-ℤ◌}
-use Rattle.std.proofs.Common.{refl, sym, ap, subst, ◌∙◌, arith, pow_mono, mod-eq_of_lt, mul_assoc}
+use Rattle.std.proofs.Common.{◌≡◌, ℕ, suc, ◌+◌, ◌-◌, ◌*◌, ◌%◌, ◌^◌, ◌<◌, ◌≤◌, Bool, true, false, cond, ℤ, pos, negsuc, ◌-ℤ◌}
+use Rattle.std.proofs.Common.{refl, sym, ap, ◌∙◌, arith, pow_mono, mod-eq_of_lt, mul_assoc}
 use Rattle.std.proofs.lemmas.Int.{ints}
 use Rattle.std.proofs.lemmas.Bool.{le-leb, leb-true, leb-false, lt-leb}
 use Rattle.std.proofs.lemmas.Bool.Decides.{same_from_decides}
-use Rattle.std.proofs.lemmas.Nat.{pow_pos, pow-add, mod_below, mod_low, mul-le, mod-pow-add, shr_split, shr_below}
+use Rattle.std.proofs.lemmas.Nat.{pow_pos, pow-add, mod_low, mul-le}
 use Rattle.std.proofs.Math.Nat.{add-mul, lt_of_mul-lt-mul_right}
 use Rattle.dt_values.specs.BitFields.{has_top_bit, signed, residue}
+use Rattle.dt_match.proofs.LowBits.{two_factors}
 
 -- l bits with a sign, as a word of n bits
 abbrev pub spread : ℕ → ℕ → ℕ → ℕ
@@ -89,10 +90,6 @@ spread_if_below false n l b h k = let le : 2 ^ l ≤ 2 ^ n = pow_mono k in omega
 pub spread_below : (n l b : ℕ) → b < 2 ^ l → l ≤ n → spread n l b < 2 ^ n
 spread_below n l b h k = spread_if_below (has_top_bit l b) n l b h k
 
--- 2 to a number in two factors
-two_factors : (n k : ℕ) → k ≤ n → 2 ^ n ≡ 2 ^ (n - k) * 2 ^ k
-two_factors n k h = let e : n ≡ (n - k) + k = omega arith in ap (λ m. 2 ^ m) e ∙ pow-add 2 (n - k) k
-
 -- some copies of a power taken off a larger one are copies of it
 copies : (n k : ℕ) → k ≤ n → 2 ^ n - 2 ^ k ≡ (2 ^ (n - k) - 1) * 2 ^ k
 copies n k h =
@@ -142,37 +139,3 @@ spread_joined n l p b j some k h below =
     ap (λ x. x * 2 ^ p + j) (spread_if_cut (has_top_bit l b) n (n - p) l b h (omega arith) (omega arith))
     ∙ spread_if_above (has_top_bit l b) n l p b j k
     ∙ ap (λ t. spread_if t n (l + p) (b * 2 ^ p + j)) (sym (top_of_joined l p b j some below))
-
--- ---- fewer bits of a residue
-cut_up : (a n k : ℕ) → k ≤ n → a % 2 ^ n % 2 ^ k ≡ a % 2 ^ k
-cut_up a n k h =
-    let e : n ≡ (n - k) + k = omega arith in
-    ap (λ m. a % 2 ^ m % 2 ^ k) e ∙ ap (λ x. x % 2 ^ k) (mod-pow-add a (n - k) k)
-    ∙ mod_low (a / 2 ^ k % 2 ^ (n - k)) k (a % 2 ^ k) (mod_below a (2 ^ k) (pow_pos k))
-
--- the ones' complement of a number in two parts
-complement : (n k q r : ℕ) → k ≤ n → q < 2 ^ (n - k) → r < 2 ^ k
-    → 2 ^ n - 1 - (q * 2 ^ k + r) ≡ (2 ^ (n - k) - suc q) * 2 ^ k + (2 ^ k - 1 - r)
-complement n k q r h a b =
-    let e = two_factors n k h in
-    let f = add-mul (2 ^ (n - k) - suc q) (suc q) (2 ^ k) in
-    let g = add-mul q 1 (2 ^ k) in
-    let i : q + 1 ≡ suc q = omega arith in
-    let one : (q + 1) * 2 ^ k ≡ suc q * 2 ^ k = ap (λ x. x * 2 ^ k) i in
-    let back : (2 ^ (n - k) - suc q) + suc q ≡ 2 ^ (n - k) = omega arith in
-    let whole : ((2 ^ (n - k) - suc q) + suc q) * 2 ^ k ≡ 2 ^ (n - k) * 2 ^ k = ap (λ x. x * 2 ^ k) back in
-    omega arith
-
-pub residue_low : (n k : ℕ) (z : ℤ) → k ≤ n → residue n z % 2 ^ k ≡ residue k z
-residue_low n k (pos a) h = cut_up a n k h
-residue_low n k (negsuc a) h =
-    let r = a % 2 ^ n in
-    let p = pow_pos k in
-    let low : r % 2 ^ k < 2 ^ k = mod_below r (2 ^ k) p in
-    let P : ℕ → Type 0 = λ m. r < 2 ^ m in
-    let e : n ≡ (n - k) + k = omega arith in
-    let high : r / 2 ^ k < 2 ^ (n - k) = shr_below r (n - k) k (subst P e (mod_below a (2 ^ n) (pow_pos n))) in
-    ap (λ x. (2 ^ n - 1 - x) % 2 ^ k) (sym (shr_split r k))
-    ∙ ap (λ x. x % 2 ^ k) (complement n k (r / 2 ^ k) (r % 2 ^ k) h high low)
-    ∙ mod_low (2 ^ (n - k) - suc (r / 2 ^ k)) k (2 ^ k - 1 - r % 2 ^ k) (omega arith)
-    ∙ ap (λ x. 2 ^ k - 1 - x) (cut_up a n k h)
