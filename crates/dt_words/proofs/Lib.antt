@@ -1,0 +1,4 @@
+pub mod Digits
+pub mod Prefixes
+pub mod LastWord
+pub mod FewOperands

@@ -1,0 +1,8 @@
+-- The option is among the rest.
+use Rattle.std.proofs.Common.{◌≡◌, drop, map}
+use Rattle.dt_words.specs.Roles as meant
+use Rattle.dt_words.specs.View.{row_seen}
+use Rattle.dt_words.proofs.roles.short_parts.Given as goal
+
+abbrev pub invariant-loop-row : goal.invariant-loop-row
+invariant-loop-row l = meant.row_short (map row_seen (drop l.row-index l.rows)) l.word ≡ meant.row_short (map row_seen l.rows) l.word

@@ -1,0 +1,78 @@
+-- What the command words say: a command, or what is wrong with which word.
+use Rattle.std.specs.Prelude.{ℕ, ◌≤◌, Bool, true, false, nat_lt, List, [], ◌∷◌, length, Option, Some, None, is_none, Result, Ok, Err, codes, if◌then◌else◌}
+use Rattle.dt_values.specs.declared.width.Width.TheVariants as width
+use Rattle.dt_scope.specs.Options.{IsOptions}
+use Rattle.dt_scope.specs.declared.options.Options.{Options}
+use Rattle.dt_words.specs.Rows.{verb_of, options_of, least_operands}
+use Rattle.dt_words.specs.Roles.{Role, Anything, roles_of}
+use Rattle.dt_words.specs.Values.{option_name, width_of}
+use Rattle.dt_words.specs.Faults.{first_fault}
+use Rattle.dt_words.specs.Settings.{last_setting, last_value, is_set, text_of}
+use Rattle.dt_words.specs.Operands.{operands}
+use Rattle.dt_words.specs.declared.command.Command.{Command}
+use Rattle.dt_words.specs.declared.command.Command.TheVariants as command
+use Rattle.dt_words.specs.declared.rows.TheConstants.{MOST_FILES}
+use Rattle.dt_words.specs.declared.rows.Verb.{Verb}
+use Rattle.dt_words.specs.declared.rows.Verb.TheVariants as verb
+use Rattle.dt_words.specs.declared.usage.Usage.{Usage}
+use Rattle.dt_words.specs.declared.usage.Usage.TheVariants as usage
+
+-- what a value is read as, or what holds without it
+abbrev pub or_default : {A B : Type 0} → (A → Option B) → B → Option A → B
+or_default read default None = default
+or_default {A} {B} read default (Some a) = or_read (read a)
+  where
+    or_read : Option B → B
+    or_read None = default
+    or_read (Some b) = b
+
+-- whether the last of two options is the first of them; so where there is none
+abbrev pub is_first : Option (Bool × List ℕ) → Bool
+is_first None = true
+is_first (Some setting) = setting.0
+
+-- what the words say of the decoder; of `--decode` and `--static-decode` the last holds
+abbrev pub options_from : List Role → Options
+options_from roles = record {
+  width = or_default width_of width.W32 (last_value (codes "--insnwidth") roles);
+  variable = false;
+  decode = or_default option_name (codes "decode") (text_of (last_setting (codes "--static-decode") (codes "--decode") roles));
+  decode_static = is_first (last_setting (codes "--static-decode") (codes "--decode") roles);
+  translate = or_default option_name (codes "trans") (last_value (codes "--translate") roles);
+  translate_static = is_none (last_value (codes "--translate") roles);
+}
+
+abbrev pub command_from : Verb → List Role → Command
+command_from verb.Gen roles =
+    command.Gen (options_from roles) (last_value (codes "--output") roles) (operands roles) (is_set (codes "--test-for-error") roles)
+
+-- the command, where no word is faulty
+abbrev pub unless_missing : Verb → List Role → Result Command (Usage × Option ℕ)
+unless_missing verb roles =
+    if nat_lt (length (operands roles)) (least_operands verb) then Err (usage.U6, None)
+    else Ok (command_from verb roles)
+
+abbrev pub unless_faulty : Option (Usage × ℕ) → Verb → List Role → Result Command (Usage × Option ℕ)
+unless_faulty None verb roles = unless_missing verb roles
+unless_faulty (Some fault) verb roles = Err (fault.0, Some fault.1)
+
+-- the command of this name, with these words behind it
+abbrev pub command_with : Option Verb → List (List ℕ) → Result Command (Usage × Option ℕ)
+command_with None words = Err (usage.U1, Some 0)
+command_with (Some verb) words =
+    let roles = roles_of (options_of verb) Anything words in
+    unless_faulty (first_fault verb 1 0 roles) verb roles
+
+-- the command that the words are, or what is wrong, with the place of the faulty word, from 0
+abbrev pub command_of : List (List ℕ) → Result Command (Usage × Option ℕ)
+command_of [] = Err (usage.U1, None)
+command_of (name ∷ words) = command_with (verb_of name) words
+
+-- what each command keeps, so that a reader of its files takes it
+pub record IsGen (options : Options) (files : List (List ℕ)) : Type 0 where
+  pub fit : IsOptions options
+  pub some : 1 ≤ length files
+  pub few : length files ≤ MOST_FILES
+
+abbrev pub IsCommand : Command → Type 0
+IsCommand (command.Gen options output files test) = IsGen options files

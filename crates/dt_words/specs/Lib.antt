@@ -1,0 +1,10 @@
+pub mod Rows
+pub mod Roles
+pub mod Numbers
+pub mod Values
+pub mod Faults
+pub mod Settings
+pub mod Operands
+pub mod Commands
+pub mod PrintedWords
+pub mod View

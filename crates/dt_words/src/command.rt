@@ -1,0 +1,55 @@
+//! What the words ask for.
+
+use dt_scope::Options;
+use dt_values::Items;
+use std::marker::Model;
+
+/// A text. Contracts see the list of its bytes.
+#[derive(Debug, Drop)]
+pub struct Text {
+    text: String,
+}
+
+impl Model for Text {
+    ghost use Rattle.std.specs.Prelude.{ℕ, List};
+    ghost use Rattle.std.specs.String.{string_bytes};
+
+    ghost Value = { List ℕ };
+
+    ghost view = { λ text. string_bytes text.text };
+}
+
+impl Text {
+    ghost use Rattle.std.specs.Prelude.{◌≡◌};
+    ghost use Rattle.std.specs.String.{string_bytes};
+
+    /// This text.
+    pub fn of(text: String) -> Text
+        ensures { result ≡ string_bytes text }
+    {
+        Text { text }
+    }
+
+    /// The text.
+    pub fn as_str(&self) -> &str
+        ensures { result.now ≡ self.now }
+    {
+        self.text.as_str()
+    }
+}
+
+/// Texts in order.
+pub type TextList = Items<Text>;
+
+/// What the words ask for.
+#[derive(Debug, Drop)]
+pub enum Command {
+    /// The C text of 1 to `MOST_FILES` pattern files, for the standard output or a file of the name `output`. Under
+    /// `test` the statuses of success and of a refusal change places.
+    Gen {
+        options: Options,
+        output: Option<Text>,
+        files: TextList,
+        test: bool,
+    },
+}

@@ -1,0 +1,25 @@
+//! Reads the command words.
+#![tactic(auto)]
+
+pub mod command;
+pub mod faults;
+pub mod laws;
+pub mod names;
+pub mod numbers;
+pub mod operands;
+pub mod print;
+pub mod read;
+pub mod roles;
+pub mod rows;
+pub mod settings;
+pub mod usage;
+pub mod values;
+
+pub use command::{Command, Text, TextList};
+pub use print::printed_word;
+pub use read::{WordFault, read_words};
+pub use rows::MOST_FILES;
+pub use usage::Usage;
+
+#[cfg(test)]
+mod tests;

@@ -1,0 +1,107 @@
+//! The commands: their options and operands.
+
+ghost use Rattle.std.specs.Prelude.{◌≡◌, map};
+ghost use Rattle.dt_words.specs.Rows.{least_operands, operands_of, options_of, verb_of};
+ghost use Rattle.dt_words.specs.View.{row_seen};
+
+/// The most pattern files that a command takes.
+pub const MOST_FILES: usize = 16;
+
+/// A command by its name.
+#[derive(Clone, Copy, Debug)]
+pub enum Verb {
+    Gen,
+}
+
+/// What a word must be that is an operand or an option's value.
+#[derive(Clone, Copy, Debug)]
+pub enum Kind {
+    /// There is no value: the option stands for itself.
+    Flag,
+    /// Any text, as a file's name.
+    Text,
+    /// A name for the C text.
+    Name,
+    /// A width of instruction words.
+    Width,
+}
+
+/// An option of a command: its long name, its short one (empty where it has none), and what its value must be.
+#[derive(Clone, Copy, Debug)]
+pub struct Row {
+    pub name: &'static str,
+    pub short: &'static str,
+    pub kind: Kind,
+}
+
+const GEN: [Row; 6] = [
+    Row {
+        name: "--translate",
+        short: "",
+        kind: Kind::Name,
+    },
+    Row {
+        name: "--decode",
+        short: "",
+        kind: Kind::Name,
+    },
+    Row {
+        name: "--static-decode",
+        short: "",
+        kind: Kind::Name,
+    },
+    Row {
+        name: "--insnwidth",
+        short: "-w",
+        kind: Kind::Width,
+    },
+    Row {
+        name: "--output",
+        short: "-o",
+        kind: Kind::Text,
+    },
+    Row {
+        name: "--test-for-error",
+        short: "",
+        kind: Kind::Flag,
+    },
+];
+
+const FILES: [Kind; MOST_FILES] = [Kind::Text; MOST_FILES];
+
+/// The command of this name.
+pub fn verb_of(name: &str) -> Option<Verb>
+    ensures { result ≡ verb_of name.now }
+{
+    match name {
+        "gen" => Some(Verb::Gen),
+        _ => None,
+    }
+}
+
+/// The options of a command.
+pub fn options_of(verb: Verb) -> &'static [Row]
+    ensures { map row_seen result.now ≡ options_of verb }
+{
+    match verb {
+        Verb::Gen => GEN.as_slice(),
+    }
+}
+
+/// What each operand of a command must be, for as many as it takes.
+pub fn operands_of(verb: Verb) -> &'static [Kind]
+    ensures { result.now ≡ operands_of verb }
+{
+    match verb {
+        Verb::Gen => FILES.as_slice(),
+    }
+}
+
+/// How many operands a command takes at least.
+pub fn least_operands(verb: Verb) -> usize
+    ensures { result ≡ least_operands verb }
+{
+    match verb {
+        Verb::Gen => 1,
+    }
+}
