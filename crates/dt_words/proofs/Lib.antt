@@ -2,3 +2,5 @@ pub mod Digits
 pub mod Prefixes
 pub mod LastWord
 pub mod FewOperands
+pub mod OnlyOperands
+pub mod LastSetting

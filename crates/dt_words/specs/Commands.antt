@@ -1,7 +1,6 @@
 -- What the command words say: a command, or what is wrong with which word.
 use Rattle.std.specs.Prelude.{ℕ, ◌≤◌, Bool, true, false, nat_lt, List, [], ◌∷◌, length, Option, Some, None, is_none, Result, Ok, Err, codes, if◌then◌else◌}
-use Rattle.dt_values.specs.declared.width.Width.TheVariants as width
-use Rattle.dt_scope.specs.Options.{IsOptions}
+use Rattle.dt_scope.specs.Options.{IsOptions, default_options}
 use Rattle.dt_scope.specs.declared.options.Options.{Options}
 use Rattle.dt_words.specs.Rows.{verb_of, options_of, least_operands}
 use Rattle.dt_words.specs.Roles.{Role, Anything, roles_of}
@@ -31,20 +30,28 @@ abbrev pub is_first : Option (Bool × List ℕ) → Bool
 is_first None = true
 is_first (Some setting) = setting.0
 
--- what the words say of the decoder; of `--decode` and `--static-decode` the last holds
+-- of `--decode` and `--static-decode` the last holds
+abbrev pub decoder_setting : List Role → Option (Bool × List ℕ)
+decoder_setting roles = last_setting (codes "--static-decode") (codes "--decode") roles
+
+-- what the words say of the decoder, and what holds where they say nothing
 abbrev pub options_from : List Role → Options
 options_from roles = record {
-  width = or_default width_of width.W32 (last_value (codes "--insnwidth") roles);
+  width = or_default width_of default_options.width (last_value (codes "--insnwidth") roles);
   variable = false;
-  decode = or_default option_name (codes "decode") (text_of (last_setting (codes "--static-decode") (codes "--decode") roles));
-  decode_static = is_first (last_setting (codes "--static-decode") (codes "--decode") roles);
-  translate = or_default option_name (codes "trans") (last_value (codes "--translate") roles);
+  decode = or_default option_name default_options.decode (text_of (decoder_setting roles));
+  decode_static = is_first (decoder_setting roles);
+  translate = or_default option_name default_options.translate (last_value (codes "--translate") roles);
   translate_static = is_none (last_value (codes "--translate") roles);
 }
 
 abbrev pub command_from : Verb → List Role → Command
 command_from verb.Gen roles =
-    command.Gen (options_from roles) (last_value (codes "--output") roles) (operands roles) (is_set (codes "--test-for-error") roles)
+    command.Gen
+    (options_from roles)
+    (last_value (codes "--output") roles)
+    (operands roles)
+    (is_set (codes "--test-for-error") roles)
 
 -- the command, where no word is faulty
 abbrev pub unless_missing : Verb → List Role → Result Command (Usage × Option ℕ)

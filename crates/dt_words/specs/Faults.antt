@@ -38,4 +38,7 @@ at_place place (Some usage) later = Some (usage, place)
 abbrev pub first_fault : Verb → ℕ → ℕ → List Role → Option (Usage × ℕ)
 first_fault verb place n [] = None
 first_fault verb place n (role ∷ roles) =
-    at_place place (word_fault verb n (length roles == 0) role) (first_fault verb (place + 1) (n + operand_count role) roles)
+    at_place
+    place
+    (word_fault verb n (length roles == 0) role)
+    (first_fault verb (place + 1) (n + operand_count role) roles)

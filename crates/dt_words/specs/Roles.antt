@@ -6,13 +6,16 @@ use Rattle.dt_words.specs.Rows.{Row}
 use Rattle.dt_words.specs.declared.rows.Kind.{Kind}
 use Rattle.dt_words.specs.declared.rows.Kind.TheVariants as kind
 
--- what a word is: the `--` behind which all words are operands; an operand; an option with its value, or with the empty
--- one where it takes none, or that value; an option whose value is to be the next word; or an option that isn't understood
+-- what a word is
 pub data Role : Type 0 where
+  -- the `--` behind which all words are operands
   Ends : Role
   Operand : List ℕ → Role
+  -- an option with its value, or that value; an option that takes none has an empty one
   Sets : Row → List ℕ → Role
+  -- an option whose value is to be the next word
   Asks : Row → Role
+  -- an option that isn't understood
   Unknown : Role
 
 -- what the words so far say of the next one
@@ -34,7 +37,8 @@ is_equals b = b == 61
 
 -- what stands behind the first `=`, if there is one
 abbrev pub behind_equals : List ℕ → Option (List ℕ)
-behind_equals word = if nat_lt (position_or_len is_equals word) (length word) then Some (after_first is_equals word) else None
+behind_equals word =
+    if nat_lt (position_or_len is_equals word) (length word) then Some (after_first is_equals word) else None
 
 -- a long option's name: what stands before the first `=`
 abbrev pub long_name : List ℕ → List ℕ
@@ -104,4 +108,6 @@ next_after next Unknown = Anything
 -- what each word is
 abbrev pub roles_of : List Row → Next → List (List ℕ) → List Role
 roles_of rows next [] = []
-roles_of rows next (word ∷ words) = role_of rows next word ∷ roles_of rows (next_after next (role_of rows next word)) words
+roles_of rows next (word ∷ words) =
+    role_of rows next word
+    ∷ roles_of rows (next_after next (role_of rows next word)) words

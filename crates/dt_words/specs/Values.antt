@@ -6,15 +6,18 @@ use Rattle.dt_values.specs.declared.width.Width.{Width}
 use Rattle.dt_values.specs.declared.width.Width.TheVariants as width
 use Rattle.dt_fields.specs.CNames.{is_keyword}
 use Rattle.dt_scope.specs.Options.{begins_as_name}
+use Rattle.dt_words.specs.declared.names.TheConstants.{LONGEST_OPTION_NAME}
 use Rattle.dt_words.specs.Numbers.{number_of}
 use Rattle.dt_words.specs.declared.rows.Kind.{Kind}
 use Rattle.dt_words.specs.declared.rows.Kind.TheVariants as kind
 use Rattle.dt_words.specs.declared.usage.Usage.{Usage}
 use Rattle.dt_words.specs.declared.usage.Usage.TheVariants as usage
 
--- a name of the C text: letters, digits and underscores, at most 100, no digit first, and no keyword of C
+-- a name for the C text: letters, digits and underscores, not too many, no digit first, and no keyword of C
 abbrev pub is_option_name : List ℕ → Bool
-is_option_name text = begins_as_name text && (list_all is_name_byte text && (nat_le (length text) 100 && not (is_keyword text)))
+is_option_name text =
+    begins_as_name text
+    && (list_all is_name_byte text && (nat_le (length text) LONGEST_OPTION_NAME && not (is_keyword text)))
 
 abbrev pub option_name : List ℕ → Option (List ℕ)
 option_name text = if is_option_name text then Some text else None

@@ -1,25 +1,49 @@
-//! Examples of what words say: public functions whose contracts are the examples.
+//! Laws of words, and examples of what they say: public functions whose contracts are the laws, and whose bodies are empty.
 
-ghost use Rattle.std.specs.Prelude.{◌≡◌, [], ◌∷◌, Err, Some, None, codes};
+ghost use Rattle.std.specs.Prelude.{◌≡◌, ◌≤◌, ℕ, List, [], ◌∷◌, ◌++◌, Ok, Err, Some, None, false, codes, length};
+ghost use Rattle.std.specs.Option.{option_or};
+ghost use Rattle.dt_scope.specs.Options.{default_options};
 ghost use Rattle.dt_words.specs.Commands.{command_of};
+ghost use Rattle.dt_words.specs.Roles.{Role};
+ghost use Rattle.dt_words.specs.Settings.{last_setting, setting_in};
+ghost use Rattle.dt_words.specs.declared.rows.TheConstants.{MOST_FILES};
 
+use crate::command::Command;
 use crate::usage::Usage;
+
+/// Words behind `--` are files, whatever they look like.
+#[tactic(auto, using(crate::proofs::OnlyOperands::files_behind_dashes))]
+pub fn law_files_behind_dashes()
+    ensures { (files : List (List ℕ)) → 1 ≤ length files → length files ≤ MOST_FILES
+        → command_of (codes "gen" ∷ codes "--" ∷ files) ≡ Ok (Command.Gen default_options None files false) }
+{}
+
+/// The last word that sets an option, or one of two that say the same, decides; words before it hold where it is none.
+#[tactic(auto, using(crate::proofs::LastSetting::last_word_first))]
+pub fn law_last_word_decides()
+    ensures { (name other : List ℕ) (roles : List Role) (role : Role)
+        → last_setting name other (roles ++ role ∷ []) ≡ option_or (setting_in name other role) (last_setting name other roles) }
+{}
 
 /// Words that are no command, and why.
 pub fn law_faulty_words()
     ensures no_words { command_of [] ≡ Err (Usage.U1, None) }
     ensures no_command { command_of (codes "make" ∷ []) ≡ Err (Usage.U1, Some 0) }
-    ensures width { command_of (codes "gen" ∷ codes "-w" ∷ codes "24" ∷ codes "t" ∷ []) ≡ Err (Usage.U5, Some 2) }
-    ensures no_width { command_of (codes "gen" ∷ codes "-w" ∷ codes "t" ∷ []) ≡ Err (Usage.U4, Some 2) }
-    ensures no_file { command_of (codes "gen" ∷ []) ≡ Err (Usage.U6, None) }
     ensures unknown { command_of (codes "gen" ∷ codes "--frob" ∷ codes "t" ∷ []) ≡ Err (Usage.U2, Some 1) }
-    ensures keyword { command_of (codes "gen" ∷ codes "--decode=int" ∷ codes "t" ∷ []) ≡ Err (Usage.U8, Some 1) }
-    ensures no_value { command_of (codes "gen" ∷ codes "-o" ∷ []) ≡ Err (Usage.U3, Some 1) }
     ensures flag_value { command_of (codes "gen" ∷ codes "--test-for-error=1" ∷ []) ≡ Err (Usage.U2, Some 1) }
+    ensures no_value { command_of (codes "gen" ∷ codes "-o" ∷ []) ≡ Err (Usage.U3, Some 1) }
+    ensures no_width { command_of (codes "gen" ∷ codes "-w" ∷ codes "t" ∷ []) ≡ Err (Usage.U4, Some 2) }
+    ensures width { command_of (codes "gen" ∷ codes "-w" ∷ codes "24" ∷ []) ≡ Err (Usage.U5, Some 2) }
+    ensures no_file { command_of (codes "gen" ∷ []) ≡ Err (Usage.U6, None) }
+    ensures keyword { command_of (codes "gen" ∷ codes "--decode=int" ∷ []) ≡ Err (Usage.U8, Some 1) }
 {}
 
 /// Two ways to say the same.
 pub fn law_same_commands()
-    ensures operands_behind_dashes { command_of (codes "gen" ∷ codes "--" ∷ codes "--" ∷ codes "-w" ∷ codes "24" ∷ []) ≡ command_of (codes "gen" ∷ codes "-w" ∷ codes "32" ∷ codes "--" ∷ codes "--" ∷ codes "-w" ∷ codes "24" ∷ []) }
-    ensures last_holds { command_of (codes "gen" ∷ codes "-w16" ∷ codes "--static-decode" ∷ codes "a" ∷ codes "t" ∷ codes "--decode=b" ∷ codes "--insnwidth=0x40" ∷ []) ≡ command_of (codes "gen" ∷ codes "t" ∷ codes "--decode" ∷ codes "b" ∷ codes "-w" ∷ codes "64" ∷ []) }
+    ensures operands_behind_dashes { command_of (codes "gen" ∷ codes "--" ∷ codes "--" ∷ codes "-w" ∷ codes "24" ∷ [])
+        ≡ command_of (codes "gen" ∷ codes "-w" ∷ codes "32" ∷ codes "--" ∷ codes "--" ∷ codes "-w" ∷ codes "24" ∷ []) }
+    ensures last_width { command_of (codes "gen" ∷ codes "-w16" ∷ codes "t" ∷ codes "--insnwidth=0x40" ∷ [])
+        ≡ command_of (codes "gen" ∷ codes "t" ∷ codes "-w" ∷ codes "64" ∷ []) }
+    ensures last_decoder { command_of (codes "gen" ∷ codes "--static-decode" ∷ codes "a" ∷ codes "t" ∷ codes "--decode=b" ∷ [])
+        ≡ command_of (codes "gen" ∷ codes "t" ∷ codes "--decode" ∷ codes "b" ∷ []) }
 {}

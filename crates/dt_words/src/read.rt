@@ -1,6 +1,6 @@
 //! From words to a command.
 
-ghost use Rattle.std.specs.Prelude.{◌≡◌, ◌≤◌, Some, map, length, is_none, codes, IfOk};
+ghost use Rattle.std.specs.Prelude.{◌≡◌, ◌≤◌, Some, map, length, is_none, IfOk};
 ghost use Rattle.dt_scope.specs.Options.{IsOptionName, IsOptions};
 ghost use Rattle.dt_words.specs.Commands as meant;
 ghost use Rattle.dt_words.specs.Operands.{operands};
@@ -110,42 +110,29 @@ fn options_from(roles: &[Role<'_>]) -> Options
     ensures value { result ≡ meant.options_from (map role_seen roles.now) }
     ensures kept { IsOptions result }
 {
+    let default = Options::default();
     let decode = last_setting(roles, "--static-decode", "--decode");
     let translate = last_value(roles, "--translate");
     Options {
-        width: width_or_default(last_value(roles, "--insnwidth")),
+        width: width_or(default.width, last_value(roles, "--insnwidth")),
         variable: false,
-        decode: decode_or_default(text_of(decode)),
+        decode: name_or(default.decode, text_of(decode)),
         decode_static: is_first(decode),
-        translate: translate_or_default(translate),
+        translate: name_or(default.translate, translate),
         translate_static: is_absent(translate),
     }
 }
 
-fn width_or_default(text: Option<&str>) -> Width
-    ensures { result ≡ meant.or_default values.width_of Width.W32 (value_seen text.entry) }
+fn width_or(default: Width, text: Option<&str>) -> Width
+    ensures { result ≡ meant.or_default values.width_of default (value_seen text.entry) }
 {
     match text {
         Some(text) => match width_of(text) {
             Some(width) => width,
-            None => Width::W32,
+            None => default,
         },
-        None => Width::W32,
+        None => default,
     }
-}
-
-fn decode_or_default(text: Option<&str>) -> Name
-    ensures value { result ≡ meant.or_default values.option_name (codes "decode") (value_seen text.entry) }
-    ensures kept { IsOptionName result }
-{
-    name_or(Options::default().decode, text)
-}
-
-fn translate_or_default(text: Option<&str>) -> Name
-    ensures value { result ≡ meant.or_default values.option_name (codes "trans") (value_seen text.entry) }
-    ensures kept { IsOptionName result }
-{
-    name_or(Options::default().translate, text)
 }
 
 fn name_or(default: Name, text: Option<&str>) -> Name

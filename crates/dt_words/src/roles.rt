@@ -36,7 +36,8 @@ pub fn roles_of<'a>(
     rows: &[Row],
     words: &'a [String],
 ) -> Result<Vec<Role<'a>>, AllocError>
-    ensures { IfOk result (λ roles. map role_seen roles.items ≡ meant.roles_of (map row_seen rows.now) meant.Anything (texts words.now)) }
+    ensures { IfOk result (λ roles.
+        map role_seen roles.items ≡ meant.roles_of (map row_seen rows.now) meant.Anything (texts words.now)) }
 {
     let mut roles = Vec::new(alloc);
     let mut next = Next::Anything;
@@ -140,7 +141,8 @@ fn short_role<'a>(rows: &[Row], word: &'a str) -> Role<'a>
 
 // The option whose short name the word begins with, and the rest of the word.
 fn short_parts<'r, 'a>(rows: &'r [Row], word: &'a str) -> Option<(&'r Row, &'a str)>
-    ensures { short_seen result ≡ option_map (λ row. (row, drop 2 word.now)) (meant.row_short (map row_seen rows.now) word.now) }
+    ensures { short_seen result
+        ≡ option_map (λ row. (row, drop 2 word.now)) (meant.row_short (map row_seen rows.now) word.now) }
 {
     for row in rows {
         if let Some(value) = behind_short(word, row.short) {
@@ -168,7 +170,8 @@ fn behind_letter(value: &str) -> Option<&str>
 }
 
 fn role_of_option<'a>(row: Option<&Row>, value: Option<&'a str>) -> Role<'a>
-    ensures { role_seen result ≡ meant.role_of_option (option_map row_seen (option_copied row.entry)) (value_seen value.entry) }
+    ensures { role_seen result
+        ≡ meant.role_of_option (option_map row_seen (option_copied row.entry)) (value_seen value.entry) }
 {
     match row {
         Some(row) => option_role(*row, value),
