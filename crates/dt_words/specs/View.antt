@@ -1,5 +1,5 @@
 -- What the code's values stand for.
-use Rattle.std.specs.Prelude.{ℕ, ◌≡◌, Bool, List, Option, Some, None, Result, Ok, Err, String, map}
+use Rattle.std.specs.Prelude.{ℕ, ◌≡◌, ◌<◌, Bool, List, Option, Some, None, Result, Ok, Err, String, map}
 use Rattle.std.specs.Borrow.{Bor}
 use Rattle.std.specs.String.{string_bytes}
 use Rattle.dt_words.specs.Rows as table
@@ -44,6 +44,13 @@ short_seen (Some found) = Some (row_seen found.0.now, found.1.now)
 abbrev pub setting_seen : Option (Bool × Bor (List ℕ)) → Option (Bool × List ℕ)
 setting_seen None = None
 setting_seen (Some setting) = Some (setting.0, setting.1.now)
+
+-- a faulty word is one of so many
+abbrev pub IsWithin : ℕ → Result Command WordFault → Type 0
+IsWithin n (Ok command) = Unit {0}
+IsWithin n (Err (fault.Bad usage None)) = Unit {0}
+IsWithin n (Err (fault.Bad usage (Some place))) = place < n
+IsWithin n (Err fault.NoMemory) = Unit {0}
 
 -- an answer is what is due; where memory runs out, any is due
 abbrev pub Answers : Result Command WordFault → Result Command (Usage × Option ℕ) → Type 0

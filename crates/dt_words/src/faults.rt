@@ -1,6 +1,6 @@
 //! What is wrong with a word, and the first faulty one.
 
-ghost use Rattle.std.specs.Prelude.{◌≡◌, ◌≤◌, map};
+ghost use Rattle.std.specs.Prelude.{◌≡◌, ◌≤◌, IfSome, length, map};
 ghost use Rattle.std.specs.Option.{option_copied};
 ghost use Rattle.dt_words.specs.Faults as meant;
 ghost use Rattle.dt_words.specs.View.{role_seen};
@@ -13,7 +13,8 @@ use crate::values::value_fault;
 /// The first faulty word, with its place among all words. The command's name has the place 0.
 #[tactic(auto, using(crate::proofs::LastWord::last_here))]
 pub fn first_fault(verb: Verb, roles: &[Role<'_>]) -> Option<(Usage, usize)>
-    ensures { result ≡ meant.first_fault verb 1 0 (map role_seen roles.now) }
+    ensures value { result ≡ meant.first_fault verb 1 0 (map role_seen roles.now) }
+    ensures within { IfSome result (λ fault. fault.1 ≤ length roles.now) }
 {
     let mut place = 1;
     let mut operands = 0;

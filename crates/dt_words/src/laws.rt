@@ -1,4 +1,4 @@
-//! Laws of words, and examples of what they say: public functions whose contracts are the laws, and whose bodies are empty.
+//! Laws of words, and examples: public functions whose contracts are the laws, and whose bodies are empty.
 
 ghost use Rattle.std.specs.Prelude.{◌≡◌, ◌≤◌, ℕ, List, [], ◌∷◌, ◌++◌, Ok, Err, Some, None, false, codes, length};
 ghost use Rattle.std.specs.Option.{option_or};
@@ -22,7 +22,8 @@ pub fn law_files_behind_dashes()
 #[tactic(auto, using(crate::proofs::LastSetting::last_word_first))]
 pub fn law_last_word_decides()
     ensures { (name other : List ℕ) (roles : List Role) (role : Role)
-        → last_setting name other (roles ++ role ∷ []) ≡ option_or (setting_in name other role) (last_setting name other roles) }
+        → last_setting name other (roles ++ role ∷ [])
+        ≡ option_or (setting_in name other role) (last_setting name other roles) }
 {}
 
 /// Words that are no command, and why.
@@ -40,10 +41,10 @@ pub fn law_faulty_words()
 
 /// Two ways to say the same.
 pub fn law_same_commands()
-    ensures operands_behind_dashes { command_of (codes "gen" ∷ codes "--" ∷ codes "--" ∷ codes "-w" ∷ codes "24" ∷ [])
-        ≡ command_of (codes "gen" ∷ codes "-w" ∷ codes "32" ∷ codes "--" ∷ codes "--" ∷ codes "-w" ∷ codes "24" ∷ []) }
+    ensures operands_behind_dashes { command_of (codes "gen" ∷ codes "--" ∷ codes "--" ∷ codes "-w" ∷ [])
+        ≡ command_of (codes "gen" ∷ codes "-w32" ∷ codes "--" ∷ codes "--" ∷ codes "-w" ∷ []) }
     ensures last_width { command_of (codes "gen" ∷ codes "-w16" ∷ codes "t" ∷ codes "--insnwidth=0x40" ∷ [])
         ≡ command_of (codes "gen" ∷ codes "t" ∷ codes "-w" ∷ codes "64" ∷ []) }
-    ensures last_decoder { command_of (codes "gen" ∷ codes "--static-decode" ∷ codes "a" ∷ codes "t" ∷ codes "--decode=b" ∷ [])
+    ensures last_decoder { command_of (codes "gen" ∷ codes "--static-decode=a" ∷ codes "t" ∷ codes "--decode=b" ∷ [])
         ≡ command_of (codes "gen" ∷ codes "t" ∷ codes "--decode" ∷ codes "b" ∷ []) }
 {}

@@ -1,13 +1,13 @@
 //! From words to a command.
 
-ghost use Rattle.std.specs.Prelude.{◌≡◌, ◌≤◌, Some, map, length, is_none, IfOk};
+ghost use Rattle.std.specs.Prelude.{◌≡◌, ◌+◌, ◌≤◌, Some, map, length, is_none, IfOk};
 ghost use Rattle.dt_scope.specs.Options.{IsOptionName, IsOptions};
 ghost use Rattle.dt_words.specs.Commands as meant;
 ghost use Rattle.dt_words.specs.Operands.{operands};
 ghost use Rattle.dt_words.specs.Rows.{least_operands, operands_of};
 ghost use Rattle.dt_words.specs.Settings.{text_of};
 ghost use Rattle.dt_words.specs.Values as values;
-ghost use Rattle.dt_words.specs.View.{Answers, role_seen, setting_seen, texts, value_seen};
+ghost use Rattle.dt_words.specs.View.{Answers, IsWithin, role_seen, setting_seen, texts, value_seen};
 
 use crate::command::{Command, Text, TextList};
 use crate::faults::first_fault;
@@ -43,6 +43,7 @@ impl From<AllocError> for WordFault {
 /// The command that the words are. The program's own name isn't among them.
 pub fn read_words(alloc: Global, words: &[String]) -> Result<Command, WordFault>
     ensures answer { Answers result (meant.command_of (texts words.now)) }
+    ensures within { IsWithin (length words.now) result }
     ensures kept { IfOk result meant.IsCommand }
 {
     let Some((name, words)) = words.split_first() else {
@@ -58,6 +59,7 @@ pub fn read_words(alloc: Global, words: &[String]) -> Result<Command, WordFault>
 #[tactic(auto, using(crate::proofs::FewOperands::few_operands))]
 fn command_with(alloc: Global, verb: Verb, words: &[String]) -> Result<Command, WordFault>
     ensures answer { Answers result (meant.command_with (Some verb) (texts words.now)) }
+    ensures within { IsWithin (length words.now + 1) result }
     ensures kept { IfOk result meant.IsCommand }
 {
     let roles = roles_of(alloc, options_of(verb), words)?;
@@ -71,6 +73,7 @@ fn command_with(alloc: Global, verb: Verb, words: &[String]) -> Result<Command, 
 fn unless_missing(alloc: Global, verb: Verb, roles: &[Role<'_>]) -> Result<Command, WordFault>
     requires few { length (operands (map role_seen roles.now)) ≤ length (operands_of verb) }
     ensures answer { Answers result (meant.unless_missing verb (map role_seen roles.now)) }
+    ensures within { IsWithin 0 result }
     ensures kept { IfOk result meant.IsCommand }
 {
     let operands = operands(alloc, roles)?;

@@ -1,6 +1,6 @@
 //! What each word behind the command is.
 
-ghost use Rattle.std.specs.Prelude.{◌≡◌, map, drop, Some, None, IfOk, if◌then◌else◌};
+ghost use Rattle.std.specs.Prelude.{◌≡◌, map, drop, length, Some, None, IfOk, if◌then◌else◌};
 ghost use Rattle.std.specs.Option.{option_copied, option_map};
 ghost use Rattle.dt_words.specs.Roles as meant;
 ghost use Rattle.dt_words.specs.View.{next_seen, role_seen, row_seen, short_seen, texts, value_seen};
@@ -36,7 +36,8 @@ pub fn roles_of<'a>(
     rows: &[Row],
     words: &'a [String],
 ) -> Result<Vec<Role<'a>>, AllocError>
-    ensures { IfOk result (λ roles.
+    ensures count { IfOk result (λ roles. length roles.items ≡ length words.now) }
+    ensures roles { IfOk result (λ roles.
         map role_seen roles.items ≡ meant.roles_of (map row_seen rows.now) meant.Anything (texts words.now)) }
 {
     let mut roles = Vec::new(alloc);
