@@ -7,7 +7,7 @@ use Rattle.dt_words.specs.Rows.{operands_of}
 use Rattle.dt_words.specs.Roles.{Role, Ends, Operand, Sets, Asks, Unknown}
 use Rattle.dt_words.specs.Faults.{at_place, first_fault, operand_count, operand_fault, word_fault}
 use Rattle.dt_words.specs.Operands.{operand_in, operands}
-use Rattle.dt_words.specs.declared.rows.Kind.{Kind}
+use Rattle.dt_words.specs.declared.rows.ValueKind.{ValueKind}
 use Rattle.dt_words.specs.declared.rows.Verb.{Verb}
 use Rattle.dt_words.specs.declared.usage.Usage.{Usage}
 
@@ -20,7 +20,7 @@ later_none place None later h = h
 later_none place (Some usage) later h = grind arith
 
 -- an operand that isn't faulty is one that may stand there
-within : (kinds : List Kind) (n : ℕ) (text : List ℕ) (kind : Option Kind) → slice_get kinds n ≡ kind → operand_fault kind text ≡ None → n < length kinds
+within : (kinds : List ValueKind) (n : ℕ) (text : List ℕ) (kind : Option ValueKind) → slice_get kinds n ≡ kind → operand_fault kind text ≡ None → n < length kinds
 within kinds n text None is h = grind arith
 within kinds n text (Some kind) is h = slice_get_within kinds n kind is
 

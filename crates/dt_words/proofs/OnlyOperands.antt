@@ -17,7 +17,7 @@ use Rattle.dt_words.specs.Commands.{command_from, command_of, is_first, or_defau
 use Rattle.dt_words.specs.declared.command.Command.{Command}
 use Rattle.dt_words.specs.declared.command.Command.TheVariants as command
 use Rattle.dt_words.specs.declared.rows.TheConstants.{MOST_FILES}
-use Rattle.dt_words.specs.declared.rows.Kind.TheVariants as kind
+use Rattle.dt_words.specs.declared.rows.ValueKind.TheVariants as kind
 use Rattle.dt_words.specs.declared.rows.Verb.TheVariants as verb
 use Rattle.dt_words.specs.declared.usage.Usage.TheVariants as usage
 

@@ -3,13 +3,13 @@ use Rattle.std.specs.Prelude.{ℕ, ◌+◌, ◌==◌, Bool, List, [], ◌∷◌,
 use Rattle.dt_words.specs.Rows.{operands_of}
 use Rattle.dt_words.specs.Roles.{Role, Ends, Operand, Sets, Asks, Unknown}
 use Rattle.dt_words.specs.Values.{value_fault}
-use Rattle.dt_words.specs.declared.rows.Kind.{Kind}
+use Rattle.dt_words.specs.declared.rows.ValueKind.{ValueKind}
 use Rattle.dt_words.specs.declared.rows.Verb.{Verb}
 use Rattle.dt_words.specs.declared.usage.Usage.{Usage}
 use Rattle.dt_words.specs.declared.usage.Usage.TheVariants as usage
 
 -- what is wrong with an operand where this is what it must be, if one may stand there
-abbrev pub operand_fault : Option Kind → List ℕ → Option Usage
+abbrev pub operand_fault : Option ValueKind → List ℕ → Option Usage
 operand_fault None text = Some usage.U7
 operand_fault (Some kind) text = value_fault kind text
 

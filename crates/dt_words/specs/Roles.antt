@@ -3,8 +3,8 @@ use Rattle.std.specs.Prelude.{ℕ, ◌==◌, ◌&&◌, Bool, true, false, not, n
 use Rattle.std.specs.List.{before_first, after_first, position_or_len}
 use Rattle.dt_values.specs.Types.{is_text}
 use Rattle.dt_words.specs.Rows.{Row}
-use Rattle.dt_words.specs.declared.rows.Kind.{Kind}
-use Rattle.dt_words.specs.declared.rows.Kind.TheVariants as kind
+use Rattle.dt_words.specs.declared.rows.ValueKind.{ValueKind}
+use Rattle.dt_words.specs.declared.rows.ValueKind.TheVariants as kind
 
 -- what a word is
 pub data Role : Type 0 where
@@ -26,7 +26,7 @@ pub data Next : Type 0 where
   -- an operand, since `--` came
   Operands : Next
 
-abbrev pub takes_value : Kind → Bool
+abbrev pub takes_value : ValueKind → Bool
 takes_value kind.Flag = false
 takes_value kind.Text = true
 takes_value kind.Name = true

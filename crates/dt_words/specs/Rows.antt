@@ -5,16 +5,16 @@ use Rattle.dt_values.specs.Types.{is_text}
 use Rattle.dt_words.specs.declared.rows.TheConstants.{MOST_FILES}
 use Rattle.dt_words.specs.declared.rows.Verb.{Verb}
 use Rattle.dt_words.specs.declared.rows.Verb.TheVariants as verb
-use Rattle.dt_words.specs.declared.rows.Kind.{Kind}
-use Rattle.dt_words.specs.declared.rows.Kind.TheVariants as kind
+use Rattle.dt_words.specs.declared.rows.ValueKind.{ValueKind}
+use Rattle.dt_words.specs.declared.rows.ValueKind.TheVariants as kind
 
 -- an option: its long name, its short one (empty where it has none), and what its value must be
 pub record Row : Type 0 where
   pub name : List ℕ
   pub short : List ℕ
-  pub kind : Kind
+  pub kind : ValueKind
 
-abbrev pub row : List ℕ → List ℕ → Kind → Row
+abbrev pub row : List ℕ → List ℕ → ValueKind → Row
 row name short kind = record { name = name; short = short; kind = kind }
 
 abbrev pub verb_of : List ℕ → Option Verb
@@ -31,7 +31,7 @@ options_of verb.Gen =
     ∷ []
 
 -- what each operand must be, for as many as there may be
-abbrev pub operands_of : Verb → List Kind
+abbrev pub operands_of : Verb → List ValueKind
 operands_of verb.Gen = replicate MOST_FILES kind.Text
 
 -- how many operands there must be

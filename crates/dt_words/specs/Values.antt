@@ -8,8 +8,8 @@ use Rattle.dt_fields.specs.CNames.{is_keyword}
 use Rattle.dt_scope.specs.Options.{begins_as_name}
 use Rattle.dt_words.specs.declared.names.TheConstants.{LONGEST_OPTION_NAME}
 use Rattle.dt_words.specs.Numbers.{number_of}
-use Rattle.dt_words.specs.declared.rows.Kind.{Kind}
-use Rattle.dt_words.specs.declared.rows.Kind.TheVariants as kind
+use Rattle.dt_words.specs.declared.rows.ValueKind.{ValueKind}
+use Rattle.dt_words.specs.declared.rows.ValueKind.TheVariants as kind
 use Rattle.dt_words.specs.declared.usage.Usage.{Usage}
 use Rattle.dt_words.specs.declared.usage.Usage.TheVariants as usage
 
@@ -47,7 +47,7 @@ abbrev pub width_fault : Option ℕ → Option Width → Option Usage
 width_fault None width = Some usage.U4
 width_fault (Some n) width = wrong_unless width usage.U5
 
-abbrev pub value_fault : Kind → List ℕ → Option Usage
+abbrev pub value_fault : ValueKind → List ℕ → Option Usage
 value_fault kind.Flag text = None
 value_fault kind.Text text = None
 value_fault kind.Name text = wrong_unless (option_name text) usage.U8

@@ -30,6 +30,13 @@ impl Text {
         Text { text }
     }
 
+    /// The text's bytes.
+    pub fn items(&self) -> &[u8]
+        ensures { result.now ≡ self.now }
+    {
+        self.text.as_bytes()
+    }
+
     /// The text.
     pub fn as_str(&self) -> &str
         ensures { result.now ≡ self.now }

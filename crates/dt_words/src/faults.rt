@@ -6,7 +6,7 @@ ghost use Rattle.dt_words.specs.Faults as meant;
 ghost use Rattle.dt_words.specs.View.{role_seen};
 
 use crate::roles::Role;
-use crate::rows::{Kind, Verb, operands_of};
+use crate::rows::{ValueKind, Verb, operands_of};
 use crate::usage::Usage;
 use crate::values::value_fault;
 
@@ -40,7 +40,7 @@ fn word_fault(verb: Verb, operands: usize, last: bool, role: Role<'_>) -> Option
     }
 }
 
-fn operand_fault(kind: Option<&Kind>, text: &str) -> Option<Usage>
+fn operand_fault(kind: Option<&ValueKind>, text: &str) -> Option<Usage>
     ensures { result ≡ meant.operand_fault (option_copied kind.entry) text.now }
 {
     match kind {

@@ -43,8 +43,8 @@ pub fn law_faulty_words()
 pub fn law_same_commands()
     ensures operands_behind_dashes { command_of (codes "gen" ∷ codes "--" ∷ codes "--" ∷ codes "-w" ∷ [])
         ≡ command_of (codes "gen" ∷ codes "-w32" ∷ codes "--" ∷ codes "--" ∷ codes "-w" ∷ []) }
-    ensures last_width { command_of (codes "gen" ∷ codes "-w16" ∷ codes "t" ∷ codes "--insnwidth=0x40" ∷ [])
+    ensures width { command_of (codes "gen" ∷ codes "-w16" ∷ codes "t" ∷ codes "--insnwidth=0x40" ∷ [])
         ≡ command_of (codes "gen" ∷ codes "t" ∷ codes "-w" ∷ codes "64" ∷ []) }
-    ensures last_decoder { command_of (codes "gen" ∷ codes "--static-decode=a" ∷ codes "t" ∷ codes "--decode=b" ∷ [])
+    ensures decoder { command_of (codes "gen" ∷ codes "--static-decode=a" ∷ codes "t" ∷ codes "--decode=b" ∷ [])
         ≡ command_of (codes "gen" ∷ codes "t" ∷ codes "--decode" ∷ codes "b" ∷ []) }
 {}

@@ -5,7 +5,7 @@ ghost use Rattle.std.specs.Option.{option_copied, option_map};
 ghost use Rattle.dt_words.specs.Roles as meant;
 ghost use Rattle.dt_words.specs.View.{next_seen, role_seen, row_seen, short_seen, texts, value_seen};
 
-use crate::rows::{Kind, Row};
+use crate::rows::{Row, ValueKind};
 use std::alloc::{AllocError, Global};
 
 /// What a word is.
@@ -192,11 +192,11 @@ fn option_role(row: Row, value: Option<&str>) -> Role<'_>
     }
 }
 
-fn takes_value(kind: Kind) -> bool
+fn takes_value(kind: ValueKind) -> bool
     ensures { result ≡ meant.takes_value kind }
 {
     match kind {
-        Kind::Flag => false,
-        Kind::Text | Kind::Name | Kind::Width => true,
+        ValueKind::Flag => false,
+        ValueKind::Text | ValueKind::Name | ValueKind::Width => true,
     }
 }

@@ -15,7 +15,7 @@ pub enum Verb {
 
 /// What a word must be that is an operand or an option's value.
 #[derive(Clone, Copy, Debug)]
-pub enum Kind {
+pub enum ValueKind {
     /// There is no value: the option stands for itself.
     Flag,
     /// Any text, as a file's name.
@@ -31,43 +31,43 @@ pub enum Kind {
 pub struct Row {
     pub name: &'static str,
     pub short: &'static str,
-    pub kind: Kind,
+    pub kind: ValueKind,
 }
 
 const GEN: [Row; 6] = [
     Row {
         name: "--translate",
         short: "",
-        kind: Kind::Name,
+        kind: ValueKind::Name,
     },
     Row {
         name: "--decode",
         short: "",
-        kind: Kind::Name,
+        kind: ValueKind::Name,
     },
     Row {
         name: "--static-decode",
         short: "",
-        kind: Kind::Name,
+        kind: ValueKind::Name,
     },
     Row {
         name: "--insnwidth",
         short: "-w",
-        kind: Kind::Width,
+        kind: ValueKind::Width,
     },
     Row {
         name: "--output",
         short: "-o",
-        kind: Kind::Text,
+        kind: ValueKind::Text,
     },
     Row {
         name: "--test-for-error",
         short: "",
-        kind: Kind::Flag,
+        kind: ValueKind::Flag,
     },
 ];
 
-const FILES: [Kind; MOST_FILES] = [Kind::Text; MOST_FILES];
+const FILES: [ValueKind; MOST_FILES] = [ValueKind::Text; MOST_FILES];
 
 /// The command of this name.
 pub fn verb_of(name: &str) -> Option<Verb>
@@ -89,7 +89,7 @@ pub fn options_of(verb: Verb) -> &'static [Row]
 }
 
 /// What each operand of a command must be, for as many as it takes.
-pub fn operands_of(verb: Verb) -> &'static [Kind]
+pub fn operands_of(verb: Verb) -> &'static [ValueKind]
     ensures { result.now ≡ operands_of verb }
 {
     match verb {

@@ -5,26 +5,26 @@ ghost use Rattle.dt_words.specs.Values.{value_fault, width_of, width_of_number};
 
 use crate::names::option_name;
 use crate::numbers::number_of;
-use crate::rows::Kind;
+use crate::rows::ValueKind;
 use crate::usage::Usage;
 use dt_values::Width;
 
 /// What is wrong with a value of this kind.
-pub fn value_fault(kind: Kind, text: &str) -> Option<Usage>
+pub fn value_fault(kind: ValueKind, text: &str) -> Option<Usage>
     ensures { result ≡ value_fault kind text.now }
 {
     match kind {
-        Kind::Flag | Kind::Text => None,
-        Kind::Name => match option_name(text.as_bytes()) {
+        ValueKind::Flag | ValueKind::Text => None,
+        ValueKind::Name => match option_name(text.as_bytes()) {
             Some(_) => None,
             None => Some(Usage::U8),
         },
-        Kind::Width => width_fault(text),
+        ValueKind::Width => width_fault(text),
     }
 }
 
 fn width_fault(text: &str) -> Option<Usage>
-    ensures { result ≡ value_fault Kind.Width text.now }
+    ensures { result ≡ value_fault ValueKind.Width text.now }
 {
     if number_of(text.as_bytes()).is_none() {
         return Some(Usage::U4);

@@ -1,7 +1,7 @@
 //! Words that are a command, and what they ask for.
 
 use crate::tests::words_of;
-use crate::{Command, MOST_FILES, read_words};
+use crate::{Command, MOST_FILES, Text, read_words};
 use std::alloc::{AllocError, Global};
 use std::test::Fail;
 
@@ -181,5 +181,13 @@ fn sixteen_files_are_taken(rt: HostRuntime) -> Result<(), Fail> {
     let wanted = "16 static decode static trans: a b c d e f g h i j k l m n o -p";
     assert_eq!(rt; summary_of(rt.alloc(), line)?.as_str(), wanted);
     assert_eq!(rt; MOST_FILES, 16);
+    Ok(())
+}
+
+#[test]
+fn a_text_shows_its_bytes(rt: HostRuntime) -> Result<(), Fail> {
+    let text = Text::of(String::from_str(rt.alloc(), "t.é")?);
+    assert_eq!(rt; text.items(), "t.é".as_bytes());
+    assert_eq!(rt; text.as_str(), "t.é");
     Ok(())
 }
