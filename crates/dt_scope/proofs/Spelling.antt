@@ -94,7 +94,3 @@ no_groups (o ∷ os) h = absurd (let e : length (o.opening ∷ map (λ x. x.open
 -- where no group is open, the entries are all
 pub all_closed : (os : List Open) (es : List Entry) → map (λ o. o.opening) os ≡ [] → spelled (items_of es) ≡ spelled_groups os ++ spelled (items_of es)
 all_closed os es h = sym (ap (λ ms. ms ++ spelled (items_of es)) (no_groups os h))
-
-pub none_open : (os : List Opening) → length os ≡ 0 → os ≡ []
-none_open [] h = refl
-none_open (o ∷ os) h = absurd (omega arith)

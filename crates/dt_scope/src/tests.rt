@@ -1,12 +1,12 @@
 //! What the elements of lines give, and the rules that they break; tables of formats and patterns; bits of lines.
 
-ghost use Rattle.std.specs.Prelude.{◌≡◌, IfOk, OnOk, length, [], true};
+ghost use Rattle.std.specs.Prelude.{◌≡◌, IfOk, OnOk, length, []};
 ghost use Rattle.dt_lines.specs.Spans.{AreSpans};
 ghost use Rattle.dt_scope.specs.Fitting.{ValuesFit};
 
 use crate::gather::{Gathered, gather, has_value};
 use crate::{
-    Bits, Digits, Entry, FieldValue, Format, Formats, Pattern, Patterns, Scope, ValueList, all_bits,
+    Bits, Digits, FieldValue, Format, Formats, Pattern, Patterns, Scope, ValueList, all_bits,
 };
 use dt_fields::{DefFault, Detail, MemberList, Rule, Segment, SetDef};
 use dt_lines::scan::logical;
@@ -213,36 +213,6 @@ fn patterns_and_their_names_stand_in_order(rt: HostRuntime) -> Result<(), Fail> 
     assert_eq!(rt; patterns.names(), [p, q, p].as_slice());
     assert!(rt; patterns.has_name(&q) && !patterns.has_name(&name(b"r")?));
     assert_eq!(rt; patterns.items().len(), 3);
-    Ok(())
-}
-
-// Whether no group is open.
-#[tactic(auto, using(crate::proofs::Spelling::none_open))]
-fn is_closed(scope: &Scope) -> bool
-    ensures { result ≡ true → scope.now.groups ≡ [] }
-{
-    scope.depth() == 0
-}
-
-#[test]
-fn a_scope_gives_its_parts(rt: HostRuntime) -> Result<(), Fail> {
-    let q = name(b"q")?;
-    let mut scope = scope(rt.alloc())?;
-    for line in 1..4 {
-        scope.push_pattern(pattern(rt.alloc(), q, line))?;
-    }
-    if !is_closed(&scope) {
-        return Err("an open group".into());
-    }
-    let (sets, formats, patterns, entries) = scope.into_parts(rt.alloc())?;
-    assert_eq!(rt; (sets.len(), formats.len(), patterns.len()), (1, 1, 3));
-    assert_eq!(rt; (patterns[1].name, patterns[2].line), (q, 3));
-    assert!(rt;
-        matches!(
-            entries.as_slice(),
-            [Entry::One(0), Entry::One(1), Entry::One(2)]
-        )
-    );
     Ok(())
 }
 
