@@ -1,5 +1,5 @@
--- How a faulty word is printed.
-use Rattle.std.specs.Prelude.{ℕ, ◌+◌, nat_lt, List, [], ◌∷◌, take, if◌then◌else◌}
+-- How a faulty word is printed, and the code of what is wrong with it.
+use Rattle.std.specs.Prelude.{ℕ, ◌+◌, nat_lt, List, [], ◌∷◌, take, codes, if◌then◌else◌}
 use Rattle.dt_words.specs.Roles.{is_long, long_name}
 use Rattle.dt_words.specs.declared.usage.Usage.{Usage}
 use Rattle.dt_words.specs.declared.usage.Usage.TheVariants as usage
@@ -32,3 +32,13 @@ printed_word usage.U5 word = word
 printed_word usage.U6 word = []
 printed_word usage.U7 word = word
 printed_word usage.U8 word = word
+
+abbrev pub usage_code : Usage → List ℕ
+usage_code usage.U1 = codes "U1"
+usage_code usage.U2 = codes "U2"
+usage_code usage.U3 = codes "U3"
+usage_code usage.U4 = codes "U4"
+usage_code usage.U5 = codes "U5"
+usage_code usage.U6 = codes "U6"
+usage_code usage.U7 = codes "U7"
+usage_code usage.U8 = codes "U8"

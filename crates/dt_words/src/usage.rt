@@ -1,5 +1,7 @@
 //! What can be wrong with a word.
 
+ghost use Rattle.std.specs.Prelude.{◌≡◌};
+
 /// What is wrong with the command words: the codes that are printed.
 #[derive(Clone, Copy, Debug, PartialEq, Eq)]
 pub enum Usage {
@@ -19,4 +21,24 @@ pub enum Usage {
     U7,
     /// A name can't stand in the C text.
     U8,
+}
+
+impl Usage {
+    ghost use Rattle.dt_words.specs.PrintedWords.{usage_code};
+
+    /// The code that is printed.
+    pub fn code(self) -> &'static str
+        ensures { result.now ≡ usage_code self }
+    {
+        match self {
+            Usage::U1 => "U1",
+            Usage::U2 => "U2",
+            Usage::U3 => "U3",
+            Usage::U4 => "U4",
+            Usage::U5 => "U5",
+            Usage::U6 => "U6",
+            Usage::U7 => "U7",
+            Usage::U8 => "U8",
+        }
+    }
 }
