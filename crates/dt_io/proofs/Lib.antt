@@ -1,4 +1,7 @@
 pub mod Extending
 pub mod Reporting
 pub mod ByName
+pub mod Named
+pub mod Places
+pub mod FirstPlace
 pub mod Distinct

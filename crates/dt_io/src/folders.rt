@@ -1,10 +1,12 @@
-//! Folders of files that are read.
+//! Folders of files that are read and changed.
 ghost use Rattle.std.specs.Prelude.{◌≡◌, IfOk};
 ghost use Rattle.std.specs.Io.{ReadsAtMost};
+ghost use Rattle.dt_io.specs.Bytes.{TakesSome};
 ghost use Rattle.dt_io.specs.Causes.{one_more};
-ghost use Rattle.dt_io.specs.Files.{Held, ReadsAt};
-ghost use Rattle.dt_io.specs.Folders.{FolderSeen, HasReadCause, IsOnlyRead};
+ghost use Rattle.dt_io.specs.Files.{Held, ReadsAt, created, grown, removed};
+ghost use Rattle.dt_io.specs.Folders.{FolderSeen, Changes, HasReadCause, IsOnlyRead};
 
+use crate::sinks::Failed;
 use thiserror::Error;
 
 /// Why bytes of a file weren't read. The folder's counts say so.
@@ -32,4 +34,19 @@ pub trait Folder {
         ensures cause { HasReadCause (seen self.old) (seen self.new) name.now result }
         ensures only { IsOnlyRead (seen self.old) (seen self.new) }
         ensures counted { (seen self.new).reads ≡ one_more (seen self.old).reads };
+
+    /// Makes a file empty. One that isn't there is made.
+    fn create(&mut self, name: &str) -> Result<(), Failed>
+        ensures { Changes (seen self.old) (seen self.new) (created (seen self.old).files name.now result) result };
+
+    /// Puts some of the piece behind a file, from the piece's start, and says how many bytes. A file that isn't there is
+    /// made first, also for an empty piece.
+    fn append(&mut self, name: &str, piece: &[u8]) -> Result<usize, Failed>
+        ensures some { TakesSome result piece.now }
+        ensures change { Changes (seen self.old) (seen self.new)
+            (grown (seen self.old).files name.now piece.now result) result };
+
+    /// Removes a file. One that isn't there is no fault.
+    fn remove(&mut self, name: &str) -> Result<(), Failed>
+        ensures { Changes (seen self.old) (seen self.new) (removed (seen self.old).files name.now result) result };
 }

@@ -1,25 +1,29 @@
 //! A folder over the system's files.
 ghost use Rattle.std.specs.Prelude.{◌≡◌, None, IfOk};
 ghost use Rattle.std.specs.Io.{ReadsAtMost};
+ghost use Rattle.dt_io.specs.Bytes.{TakesSome};
 ghost use Rattle.dt_io.specs.Causes.{one_more};
-ghost use Rattle.dt_io.specs.Files.{Held, ReadsAt};
-ghost use Rattle.dt_io.specs.Folders.{HasReadCause, IsOnlyRead, after_answer, counts_seen};
+ghost use Rattle.dt_io.specs.Files.{Held, ReadsAt, created, grown, removed};
+ghost use Rattle.dt_io.specs.Folders.{Changes, HasReadCause, IsOnlyRead, after_answer, after_change, counts_seen};
 
 use crate::faults::raise;
 use crate::folders::{Folder, FolderFault};
-use std::io::{ErrorKind, Read, Seek, SeekFrom};
+use crate::sinks::Failed;
+use std::fs::{self, OpenOptions};
+use std::io::{self, ErrorKind, Read, Seek, SeekFrom, Write};
 use std::marker::Model;
 use std::rt::Files;
-use std::{fs, io};
 
 /// The folder that the program runs in, of which nothing is known but how many reads were made,
-/// how often one failed and how often a file was missing, each up to 2^64 - 1. What is no regular
-/// file, as a folder, a pipe or a device, isn't read.
+/// how often one failed, how often a file was missing and how often a change failed, each up to
+/// 2^64 - 1. What is no regular file, as a folder, a pipe or a device, isn't read. A file is open
+/// during one call alone.
 #[derive(Drop)]
 pub struct RealFolder<'a, R: Files> {
     rt: &'a R,
     misses: u64,
     read_faults: u64,
+    write_faults: u64,
     reads: u64,
 }
 
@@ -28,18 +32,24 @@ impl<'a, R: Files> Model for RealFolder<'a, R> {
 
     ghost Value = { FolderCounts };
 
-    ghost view = { λ s. record { misses = s.misses; read_faults = s.read_faults; reads = s.reads } };
+    ghost view = { λ s. record {
+      misses = s.misses;
+      read_faults = s.read_faults;
+      write_faults = s.write_faults;
+      reads = s.reads;
+    } };
 }
 
 impl<'a, R: Files> RealFolder<'a, R> {
-    /// The folder that the program runs in, with no read so far.
+    /// The folder that the program runs in, with no read and no fault so far.
     pub fn new(rt: &'a R) -> RealFolder<'a, R>
-        ensures { result ≡ record { misses = 0; read_faults = 0; reads = 0 } }
+        ensures { result ≡ record { misses = 0; read_faults = 0; write_faults = 0; reads = 0 } }
     {
         RealFolder {
             rt,
             misses: 0,
             read_faults: 0,
+            write_faults: 0,
             reads: 0,
         }
     }
@@ -76,6 +86,30 @@ fn read_at<R: Files>(rt: &R, name: &str, at: u64, buf: &mut [u8]) -> Result<usiz
     }
 }
 
+/// Puts some of the piece behind a file of the system, which is made if it isn't there.
+fn append_to<R: Files>(rt: &R, name: &str, piece: &[u8]) -> Result<usize, Failed>
+    ensures { TakesSome result piece.now }
+{
+    let mut options = OpenOptions::new();
+    options.append(true).create(true);
+    let Ok(mut file) = options.open(rt, name) else {
+        return Err(Failed);
+    };
+    match file.write(piece) {
+        Ok(count) if count > 0 || piece.is_empty() => Ok(count),
+        _ => Err(Failed),
+    }
+}
+
+/// Removes a file of the system. One that isn't there is no fault.
+fn remove_file<R: Files>(rt: &R, name: &str) -> Result<(), Failed> {
+    match fs::remove_file(rt, name) {
+        Ok(()) => Ok(()),
+        Err(error) if error.kind() == ErrorKind::NotFound => Ok(()),
+        Err(_) => Err(Failed),
+    }
+}
+
 impl<'a, R: Files> Folder for RealFolder<'a, R> {
     ghost seen = { counts_seen };
 
@@ -93,6 +127,41 @@ impl<'a, R: Files> Folder for RealFolder<'a, R> {
             Ok(_) => {}
             Err(FolderFault::Missing) => raise(&mut self.misses),
             Err(FolderFault::Failed) => raise(&mut self.read_faults),
+        }
+        answer
+    }
+
+    fn create(&mut self, name: &str) -> Result<(), Failed>
+        ensures change { Changes (counts_seen self.old) (counts_seen self.new) (created None name.now result) result }
+        ensures exact { self.new ≡ after_change self.old result }
+    {
+        if fs::create(self.rt, name).is_err() {
+            raise(&mut self.write_faults);
+            return Err(Failed);
+        }
+        Ok(())
+    }
+
+    fn append(&mut self, name: &str, piece: &[u8]) -> Result<usize, Failed>
+        ensures some { TakesSome result piece.now }
+        ensures change { Changes (counts_seen self.old) (counts_seen self.new)
+            (grown None name.now piece.now result) result }
+        ensures exact { self.new ≡ after_change self.old result }
+    {
+        let answer = append_to(self.rt, name, piece);
+        if answer.is_err() {
+            raise(&mut self.write_faults);
+        }
+        answer
+    }
+
+    fn remove(&mut self, name: &str) -> Result<(), Failed>
+        ensures change { Changes (counts_seen self.old) (counts_seen self.new) (removed None name.now result) result }
+        ensures exact { self.new ≡ after_change self.old result }
+    {
+        let answer = remove_file(self.rt, name);
+        if answer.is_err() {
+            raise(&mut self.write_faults);
         }
         answer
     }

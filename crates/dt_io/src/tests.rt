@@ -2,12 +2,26 @@
 ghost use Rattle.std.specs.Prelude.{◌≤◌};
 
 use crate::{
-    Failed, Folder, FolderFault, LoadFault, MemoryFolder, MemorySink, RealFolder, RealSink, Sink,
-    read_all, report, write_all,
+    Failed, Folder, FolderFault, FolderSink, LoadFault, MemoryFolder, MemorySink, RealFolder,
+    RealSink, Sink, read_all, report, write_all, write_output,
 };
 use std::alloc::{AllocError, Global};
 use std::fs;
 use std::test::Fail;
+
+/// A folder with room for one output.
+#[tactic(auto, using(crate::proofs::Distinct::distinct_one))]
+fn one_output(
+    alloc: Global,
+    room: usize,
+    step: usize,
+    failing: &[u64],
+) -> Result<MemoryFolder, AllocError>
+    requires { 1 ≤ step }
+{
+    let outputs = [String::from_str(alloc, "o")?];
+    MemoryFolder::new(alloc, &[], &outputs, room, step, failing)
+}
 
 /// A folder with one file of so many bytes.
 #[tactic(auto, using(crate::proofs::Distinct::distinct_one))]
@@ -21,7 +35,7 @@ fn one_file(
 {
     let name = String::from_str(alloc, "a")?;
     let files = [(name, vec![in alloc; b'x'; len]?)];
-    MemoryFolder::new(alloc, &files, step, failing)
+    MemoryFolder::new(alloc, &files, &[], 0, step, failing)
 }
 
 #[test]
@@ -38,7 +52,7 @@ fn a_memory_folder_holds_its_files(rt: HostRuntime) -> Result<(), Fail> {
             Vec::from_slice(alloc, b"two")?,
         ),
     ];
-    let mut folder = MemoryFolder::new(alloc, &files, 2, &[4])?;
+    let mut folder = MemoryFolder::new(alloc, &files, &[], 0, 2, &[4])?;
     assert_eq!(rt; folder.file("b"), Some(b"two".as_slice()));
     assert_eq!(rt; folder.file("c"), None);
     let mut buf = [0; 4];
@@ -97,6 +111,85 @@ fn a_sink_holds_what_was_written_before_it_failed(rt: HostRuntime) -> Result<(),
         assert_eq!(rt; answer.is_ok(), held == text.len());
         assert_eq!(rt; sink.bytes(), &text[..held]);
     }
+    Ok(())
+}
+
+#[test]
+fn a_memory_folder_keeps_what_is_written(rt: HostRuntime) -> Result<(), Fail> {
+    let alloc = rt.alloc();
+    let mut folder = one_output(alloc, 20, 8, &[])?;
+    assert_eq!(rt; folder.file("o"), None);
+    assert_eq!(rt; write_output(&mut folder, "o", b"0123456789abcdef"), Ok(()));
+    assert_eq!(rt; folder.file("o"), Some(b"0123456789abcdef".as_slice()));
+    assert_eq!(rt; folder.append("o", b"xyzzy"), Ok(4));
+    assert_eq!(rt; folder.append("o", b"x"), Err(Failed));
+    assert_eq!(rt; folder.append("o", b""), Ok(0));
+    assert_eq!(rt; folder.file("o"), Some(b"0123456789abcdefxyzz".as_slice()));
+    Ok(())
+}
+
+#[test]
+fn a_removed_file_keeps_its_room(rt: HostRuntime) -> Result<(), Fail> {
+    let mut folder = one_output(rt.alloc(), 2, 8, &[])?;
+    assert_eq!(rt; folder.remove("o"), Ok(()));
+    assert_eq!(rt; folder.append("o", b"wx"), Ok(2));
+    assert_eq!(rt; folder.remove("o"), Ok(()));
+    assert_eq!(rt; folder.file("o"), None);
+    assert_eq!(rt; folder.append("o", b"xyz"), Ok(2));
+    assert_eq!(rt; folder.file("o"), Some(b"xy".as_slice()));
+    Ok(())
+}
+
+#[test]
+fn a_made_file_is_empty(rt: HostRuntime) -> Result<(), Fail> {
+    let mut folder = one_output(rt.alloc(), 2, 8, &[])?;
+    assert_eq!(rt; folder.append("o", b""), Ok(0));
+    assert!(rt; folder.file("o").is_some());
+    assert_eq!(rt; folder.append("o", b"x"), Ok(1));
+    assert_eq!(rt; folder.create("o"), Ok(()));
+    assert_eq!(rt; folder.file("o"), Some(b"".as_slice()));
+    Ok(())
+}
+
+#[test]
+fn a_memory_folder_has_room_for_its_names_alone(rt: HostRuntime) -> Result<(), Fail> {
+    let mut folder = one_output(rt.alloc(), 20, 8, &[])?;
+    assert_eq!(rt; folder.create("p"), Err(Failed));
+    assert_eq!(rt; folder.append("p", b"x"), Err(Failed));
+    assert_eq!(rt; folder.remove("p"), Ok(()));
+    assert_eq!(rt; folder.file("p"), None);
+    Ok(())
+}
+
+#[test]
+fn an_output_that_fails_is_left_as_it_is(rt: HostRuntime) -> Result<(), Fail> {
+    let alloc = rt.alloc();
+    let table = [
+        (1, None),
+        (2, Some(b"".as_slice())),
+        (3, Some(b"01234567".as_slice())),
+    ];
+    for (call, left) in table {
+        let mut folder = one_output(alloc, 20, 8, &[call])?;
+        assert_eq!(rt; write_output(&mut folder, "o", b"0123456789"), Err(Failed));
+        assert_eq!(rt; folder.file("o"), left, "at {call}");
+    }
+    Ok(())
+}
+
+#[test]
+fn a_real_folder_holds_what_was_written(rt: HostRuntime) -> Result<(), Fail> {
+    let alloc = rt.alloc();
+    let name = "a_real_folder_holds_what_was_written.txt";
+    let mut folder = RealFolder::new(&rt);
+    assert_eq!(rt; write_output(&mut folder, name, b"one"), Ok(()));
+    let mut sink = FolderSink::new(&mut folder, name);
+    assert_eq!(rt; write_all(&mut sink, b", two"), Ok(()));
+    let bytes = read_all(alloc, &mut folder, name, 16)?;
+    assert_eq!(rt; bytes.as_slice(), b"one, two".as_slice());
+    assert_eq!(rt; folder.remove(name), Ok(()));
+    assert_eq!(rt; folder.remove(name), Ok(()));
+    assert_eq!(rt; folder.create("."), Err(Failed));
     Ok(())
 }
 
