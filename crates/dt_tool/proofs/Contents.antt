@@ -1,84 +1,73 @@
--- What stops a load is due, for the folder's file and for some content of it; what is made of a file is due for it.
-use Rattle.std.proofs.Common.{◌≡◌, ℕ, ◌+◌, ◌<◌, List, length, Option, Some, None, refl, ap, sym, subst, arith, replicate, inl, inr}
-use Rattle.std.specs.Prelude.{◌⊎◌, Result, Err, Vec, All, IfSome, IsErrAnd}
-use Rattle.std.specs.FinMap as files_by_name
-use Rattle.std.proofs.lemmas.List.{length-replicate}
-use Rattle.std.proofs.lemmas.List.Elements.{All-replicate}
-use Rattle.dt_io.specs.Files.{Files, Held, NotHeld}
-use Rattle.dt_io.specs.Folders.{FolderSeen, ReadFailed}
-use Rattle.dt_lines.specs.declared.scan.TheConstants.{LARGEST_FILE}
-use Rattle.dt_tool.specs.Due.{missing, refused, IsDue, IsDueOf, IsDueOfWords, IsDueOfInput}
+-- What is made of the files that are loaded is due, for the folder's files and for some content of them; so is what stops
+-- the reading.
+use Rattle.std.proofs.Common.{◌≡◌, ℕ, List, [], get_or, Option, Some, None, Result, Ok, Err, ap, sym, subst}
+use Rattle.std.specs.Prelude.{Vec, IfOk, IfSome}
+use Rattle.dt_io.specs.Files.{Files}
+use Rattle.dt_io.specs.Folders.{FolderSeen}
+use Rattle.dt_tool.specs.Decoders.{IsDecoderOf}
+use Rattle.dt_tool.specs.Due.{Asked, Due, refused, written, IsDue, IsDueOfFiles, IsDueOfInputs, IsDueOfTexts}
+use Rattle.dt_tool.specs.Inputs.{Input, Unread, too_large, inputs_of, texts_in}
 use Rattle.dt_tool.specs.Messages as said
-use Rattle.dt_tool.specs.Stops.{AnswersDue, IsForSome, IsMissing, StopsLoad}
-use Rattle.dt_tool.specs.Words.{file_named}
+use Rattle.dt_tool.specs.Stops.{AnswersGen, AreLoaded, IsTextOf, MakesDue, StopsGen, StopsLoading}
 use Rattle.dt_tool.specs.declared.generate.Stop.{Stop}
 use Rattle.dt_tool.specs.declared.generate.Stop.TheVariants as stops
-use Rattle.dt_tool.proofs.Refusing.{handed_on}
+use Rattle.dt_tool.proofs.Loading.{ReadOfSome, loaded_of_some, large_of_some}
 
-large_due : (file bytes text : List ℕ) → LARGEST_FILE < length bytes → text ≡ said.too_large file → IsDueOf file bytes (refused text)
-large_due file bytes text large is = inl (large, ap refused is)
+module _ (asked : Asked) where
+  due_of_read : (inputs : List Input) (read : Result (List (List ℕ)) Unread) (what : Due) → texts_in inputs ≡ read → IsDueOfTexts asked read what → IsDueOfInputs asked inputs what
+  due_of_read inputs read what is due = subst (λ (r : Result (List (List ℕ)) Unread). IsDueOfTexts asked r what) (sym is) due
 
--- a file that isn't held is missing
-missing_due : (words : List (List ℕ)) (files : Files) (file : List ℕ) → file_named words ≡ Some file → files_by_name.get files file ≡ None → IsMissing (IsDue words files)
-missing_due words files file named none = record {
-  file = file;
-  due = subst (λ (n : Option (List ℕ)). IsDueOfWords n files (missing file)) (sym named) (subst (λ (held : Option (List ℕ)). IsDueOfInput file held (missing file)) (sym none) refl);
-}
+  -- what is made of loaded texts
+  text_of_read : (inputs : List Input) (texts : List (List ℕ)) (text : List ℕ) → texts_in inputs ≡ Ok texts → IsDueOfFiles asked.options asked.names texts (written text) → IsDecoderOf asked.options texts text
+      → IsTextOf asked inputs text
+  text_of_read inputs texts text is due decoder = record {
+    due = due_of_read inputs (Ok texts) (written text) is due;
+    decoder = record { texts = texts; read = is; decoder = decoder };
+  }
 
--- what `Held` says of a known file over the limit
-abbrev IsLarge : Option (List ℕ) → Type 0
-IsLarge None = ⊥
-IsLarge (Some bytes) = LARGEST_FILE < length bytes
+  text_known : (known : Option Files) (texts : List (List ℕ)) (text : List ℕ) → AreLoaded known asked.names texts → IsDueOfFiles asked.options asked.names texts (written text) → IsDecoderOf asked.options texts text
+      → IfSome known (λ files. IsTextOf asked (inputs_of files asked.names) text)
+  text_known None texts text loaded due decoder = tt
+  text_known (Some files) texts text loaded due decoder = text_of_read (inputs_of files asked.names) texts text loaded.held due decoder
 
-held_due : (file text : List ℕ) (held : Option (List ℕ)) → IsLarge held → text ≡ said.too_large file → IsDueOfInput file held (refused text)
-held_due file text None h is = absurd h
-held_due file text (Some bytes) h is = large_due file bytes text h is
+  refusal_known : (known : Option Files) (texts : List (List ℕ)) (message : List ℕ) → AreLoaded known asked.names texts → IsDueOfFiles asked.options asked.names texts (refused message)
+      → IfSome known (λ files. IsDue asked files (refused message))
+  refusal_known None texts message loaded due = tt
+  refusal_known (Some files) texts message loaded due = due_of_read (inputs_of files asked.names) (Ok texts) (refused message) loaded.held due
 
-large_file_due : (words : List (List ℕ)) (file text : List ℕ) (known : Option Files) → file_named words ≡ Some file → Held known file (λ held. LARGEST_FILE < length held) → text ≡ said.too_large file
-    → IfSome known (λ files. IsDue words files (refused text))
-large_file_due words file text None named large is = tt
-large_file_due words file text (Some files) named large is =
-    subst (λ (n : Option (List ℕ)). IsDueOfWords n files (refused text)) (sym named) (held_due file text (files_by_name.get files file) large is)
+  pub made : (A : Type 0) (before after : FolderSeen) (texts : List (List ℕ)) (result : Result (Vec ℕ A) Stop) → AreLoaded before.files asked.names texts
+      → MakesDue result (IsDueOfFiles asked.options asked.names texts) → IfOk result (λ text. IsDecoderOf asked.options texts text.items) → AnswersGen asked before after result
+  made A before after texts (Ok text) loaded due decoder =
+      let of : ReadOfSome asked.names (Ok texts) = loaded_of_some before.files asked.names texts loaded in
+      record {
+        known = text_known before.files texts text.items loaded due decoder;
+        some = record { inputs = of.inputs; some = of.some; holds = text_of_read of.inputs texts text.items of.is due decoder };
+      }
+  made A before after texts (Err (stops.ReadFault message)) loaded due decoder = absurd due
+  made A before after texts (Err (stops.Refused message)) loaded due decoder =
+      let of : ReadOfSome asked.names (Ok texts) = loaded_of_some before.files asked.names texts loaded in
+      record {
+        known = refusal_known before.files texts message.items loaded due;
+        some = record { inputs = of.inputs; some = of.some; holds = due_of_read of.inputs (Ok texts) (refused message.items) of.is due };
+      }
+  made A before after texts (Err stops.NoMemory) loaded due decoder = tt
 
-unread_due : (words : List (List ℕ)) (file : List ℕ) (known : Option Files) (Failed : Type 0) → file_named words ≡ Some file → NotHeld known file ⊎ Failed
-    → IfSome known (λ files. IsMissing (IsDue words files) ⊎ Failed)
-unread_due words file None Failed named h = tt
-unread_due words file (Some files) Failed named h = elim h [ inl none ↦ inl (missing_due words files file named none) | inr failed ↦ inr failed ]
+  -- what stops the reading is due
+  large_known : (known : Option Files) (file message : List ℕ) → message ≡ said.too_large file → IfSome known (λ files. texts_in (inputs_of files asked.names) ≡ Err (too_large file))
+      → IfSome known (λ files. IsDue asked files (refused message))
+  large_known None file message is h = tt
+  large_known (Some files) file message is h = due_of_read (inputs_of files asked.names) (Err (too_large file)) (refused message) h (ap refused is)
 
-nothing_due : (known : Option Files) → IfSome known (λ files. Unit {0})
-nothing_due None = tt
-nothing_due (Some files) = tt
-
--- what stops a load answers what is due, where the files are known
-stopped_due : (A : Type 0) (words : List (List ℕ)) (file : List ℕ) (before after : FolderSeen) (stop : Stop) → file_named words ≡ Some file → StopsLoad before after file stop
-    → IfSome before.files (λ files. AnswersDue {A = A} (ReadFailed before after) (Err stop) (IsDue words files))
-stopped_due A words file before after stops.Usage named is = absurd is
-stopped_due A words file before after (stops.ReadFault message) named is = unread_due words file before.files (ReadFailed before after) named is.missing
-stopped_due A words file before after (stops.Refused message) named is = large_file_due words file message.items before.files named is.1 is.0
-stopped_due A words file before after stops.NoMemory named is = nothing_due before.files
-
--- the same of what a `?` hands on
-pub stop_answers : (A : Type 0) (words : List (List ℕ)) (file : List ℕ) (before after : FolderSeen) (stop : Stop) (result : Result (Vec ℕ A) Stop) → IsErrAnd result (λ handed. handed ≡ stop)
-    → file_named words ≡ Some file → StopsLoad before after file stop → IfSome before.files (λ files. AnswersDue (ReadFailed before after) result (IsDue words files))
-stop_answers A words file before after stop result is named stops =
-    handed_on (λ r. IfSome before.files (λ files. AnswersDue (ReadFailed before after) r (IsDue words files))) result stop is (stopped_due A words file before after stop named stops)
-
--- some bytes of this length
-pub record OfLength (n : ℕ) : Type 0 where
-  pub bytes : List ℕ
-  pub are_bytes : All (λ b. b < 256) bytes
-  pub length : length bytes ≡ n
-
-of_length : (n : ℕ) → OfLength n
-of_length n = record { bytes = replicate n 0; are_bytes = All-replicate (λ b. b < 256) n 0 (omega arith); length = length-replicate n 0 }
-
--- and is due for some content, known or not
-pub stopped_for_some : (A : Type 0) (words : List (List ℕ)) (file : List ℕ) (before after : FolderSeen) (stop : Stop) → file_named words ≡ Some file → StopsLoad before after file stop
-    → IsForSome {A = A} (Err stop) words
-stopped_for_some A words file before after stops.Usage named is = tt
-stopped_for_some A words file before after (stops.ReadFault message) named is = tt
-stopped_for_some A words file before after (stops.Refused message) named is =
-    let long : OfLength (LARGEST_FILE + 1) = of_length (LARGEST_FILE + 1) in
-    let size : length long.bytes ≡ LARGEST_FILE + 1 = long.length in
-    record { file = file; bytes = long.bytes; are_bytes = long.are_bytes; named = named; due = large_due file long.bytes message.items (omega arith) is.0 }
-stopped_for_some A words file before after stops.NoMemory named is = tt
+  pub stopped : (before after : FolderSeen) (stop : Stop) → StopsLoading before after asked.names stop → StopsGen asked before after stop
+  stopped before after (stops.ReadFault message) stop = stop
+  stopped before after (stops.Refused message) stop =
+      let of : ReadOfSome asked.names (Err (too_large (get_or asked.names stop.place []))) = large_of_some asked.names stop.place [] stop.named in
+      record {
+        known = large_known before.files (get_or asked.names stop.place []) message.items stop.said stop.stops;
+        some = record {
+          inputs = of.inputs;
+          some = of.some;
+          holds = due_of_read of.inputs (Err (too_large (get_or asked.names stop.place []))) (refused message.items) of.is (ap refused stop.said);
+        };
+      }
+  stopped before after stops.NoMemory stop = tt

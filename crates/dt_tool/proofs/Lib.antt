@@ -1,5 +1,6 @@
 pub mod OneDue
 pub mod Refusing
+pub mod Loading
+pub mod Sources
 pub mod Contents
-pub mod Completing
 pub mod Right

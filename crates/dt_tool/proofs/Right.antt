@@ -1,103 +1,177 @@
--- What a run promises where a text is made, and where a refusal is.
-use Rattle.std.proofs.Common.{◌≡◌, ◌≢◌, ℕ, List, [], ◌∷◌, Option, Some, None, refl, ap, sym, subst, arith, inl, inr, append-nil}
-use Rattle.std.specs.Prelude.{◌⊎◌, IfSome, IsSomeAnd}
-use Rattle.dt_io.specs.Bytes.{extend}
-use Rattle.dt_io.specs.Files.{Files}
-use Rattle.dt_io.specs.Folders.{IsOnlyRead}
-use Rattle.dt_io.specs.Sinks.{SinkSeen, IsOnlyWritten, Reports}
-use Rattle.dt_tool.specs.Decoders.{IsDecoderOf, AppendsDecoderOf}
-use Rattle.dt_tool.specs.Due.{written, refused, CanBeDue, IsDue, input}
-use Rattle.dt_tool.specs.Outcomes.{RunSeen, IsRight, IsRightOver, WritesText, message_for}
-use Rattle.dt_tool.specs.Words.{file_named}
+-- What a run of `gen` promises where a text is made, and where it stops.
+use Rattle.std.proofs.Common.{◌≡◌, ◌≢◌, ◌≤◌, ℕ, List, Option, Some, None, Result, Err, refl, ap, sym, ◌∙◌, subst, arith, inl, inr, ◌⊎◌}
+use Rattle.std.specs.Prelude.{IfSome}
+use Rattle.dt_io.specs.Causes.{Rose}
+use Rattle.dt_io.specs.Files.{Files, with_file}
+use Rattle.dt_io.specs.Folders.{FolderSeen, IsOnlyRead, ReadFailed}
+use Rattle.dt_io.specs.Outputs.{LeavesPart}
+use Rattle.dt_io.specs.Sinks.{SinkSeen, IsOnlyWritten}
+use Rattle.dt_tool.specs.Delivery.{DeliveryMeans, Delivers}
+use Rattle.dt_tool.specs.Due.{Asked, Due, missing, refused, written, IsDue, IsDueOfTexts}
+use Rattle.dt_tool.specs.Inputs as inputs
+use Rattle.dt_tool.specs.Inputs.{inputs_of, texts_in}
+use Rattle.dt_tool.specs.Messages as said
+use Rattle.dt_tool.specs.Outcomes.{RunSeen, Completes, CompletesOver, IsRightGen, Means, ChangesOnly, NoCountFalls, Says, Stands, StandsPart, WritingFailed}
+use Rattle.dt_tool.specs.Stops.{IsMade, IsTextOf, StopsGen}
+use Rattle.dt_tool.specs.View.{message_of, outcome_of}
+use Rattle.dt_tool.specs.declared.generate.Stop.{Stop}
+use Rattle.dt_tool.specs.declared.generate.Stop.TheVariants as stops
 use Rattle.dt_tool.specs.declared.status.Outcome.{Outcome}
 use Rattle.dt_tool.specs.declared.status.Outcome.TheVariants as outcomes
-use Rattle.dt_tool.proofs.Completing.{completes_refused, completes_written}
-
-extend_nothing : (known : Option (List ℕ)) → extend known [] ≡ known
-extend_nothing None = refl
-extend_nothing (Some bytes) = ap Some (append-nil bytes)
+use Rattle.dt_tool.proofs.OneDue.{one_due}
 
 only_the_same : {R : Type 0} (before after : SinkSeen R) → after ≡ before → IsOnlyWritten before after
 only_the_same before after same = record { faults = let f = ap (λ (s : SinkSeen _). s.faults) same in omega arith; rest = ap (λ (s : SinkSeen _). s.rest) same }
 
-reports_nothing : {R : Type 0} (before after : SinkSeen R) → after ≡ before → Reports before after []
-reports_nothing before after same =
-    let bytes : after.written ≡ extend before.written [] = subst (λ (w : Option (List ℕ)). after.written ≡ w) (sym (extend_nothing before.written)) (ap (λ (s : SinkSeen _). s.written) same) in
-    record { prefix = (0, bytes); all = inl bytes; only = only_the_same before after same }
+no_later : (a b c : ℕ) → a ≤ b → b ≤ c → a ≤ c
+no_later a b c h k = omega arith
 
--- an outcome of a text that was made is no other
-only_two : (P : Type 0) (outcome other : Outcome) → (outcome ≡ outcomes.Done) ⊎ (outcome ≡ outcomes.WriteFault) → outcomes.Done ≢ other → outcomes.WriteFault ≢ other → outcome ≡ other → P
-only_two P outcome other either done fault is = elim either [ inl d ↦ absurd (done (subst (λ o. o ≡ other) d is)) | inr f ↦ absurd (fault (subst (λ o. o ≡ other) f is)) ]
+same_or_less : (a b : ℕ) → b ≡ a → a ≤ b
+same_or_less a b h = omega arith
 
-append_decoder : {R : Type 0} (before after : SinkSeen R) (text : List ℕ) (named : Option (List ℕ)) → after.written ≡ extend before.written text → IsSomeAnd named (λ bytes. IsDecoderOf (bytes ∷ []) text)
-    → IsSomeAnd named (λ bytes. AppendsDecoderOf (bytes ∷ []) before.written after.written)
-append_decoder before after text None whole h = h
-append_decoder before after text (Some bytes) whole h = record { text = text; decoder = h; written = whole }
+read_falls_not : (before after : FolderSeen) → IsOnlyRead before after → NoCountFalls before after
+read_falls_not before after only = record {
+  misses = only.misses;
+  read_faults = only.read_faults;
+  write_faults = same_or_less before.write_faults after.write_faults only.write_faults;
+  reads = only.reads;
+}
 
-module _ {O E : Type 0} (run : RunSeen O E) where
-  text_over : (text : List ℕ) (known : Option Files) → IfSome known (λ files. IsDue run.words files (written text))
-      → IfSome known (λ files. IsSomeAnd (input run.words files) (λ bytes. IsDecoderOf (bytes ∷ []) text))
-      → WritesText text run.outcome run.out run.out_after run.err run.err_after → IfSome known (IsRightOver run)
-  text_over text None due decoder writes = tt
-  text_over text (Some files) due decoder writes = record {
-    done = λ done. record { text = text; due = due; whole = writes.done done };
-    decoder = λ done. append_decoder run.out run.out_after text (input run.words files) (writes.done done) decoder;
-    refused = only_two _ run.outcome outcomes.Refused writes.either (λ e. cc) (λ e. cc);
-    missing = only_two _ run.outcome outcomes.ReadFault writes.either (λ e. cc) (λ e. cc);
-    part = λ fault. record { text = text; due = due; prefix = writes.part fault };
-    complete = completes_written run.words files text run.outcome _ _ due writes.either writes.cause;
-  }
+falls_not : (before mid after : FolderSeen) → IsOnlyRead before mid → NoCountFalls mid after → NoCountFalls before after
+falls_not before mid after only counts = record {
+  misses = no_later before.misses mid.misses after.misses only.misses counts.misses;
+  read_faults = no_later before.read_faults mid.read_faults after.read_faults only.read_faults counts.read_faults;
+  write_faults = no_later before.write_faults mid.write_faults after.write_faults (same_or_less before.write_faults mid.write_faults only.write_faults) counts.write_faults;
+  reads = no_later before.reads mid.reads after.reads only.reads counts.reads;
+}
 
-  -- a text was made
-  pub right_text : (text : List ℕ) → (file_named run.words ≡ None → ⊥) → IfSome run.folder.files (λ files. IsDue run.words files (written text)) → CanBeDue run.words (written text)
-      → IfSome run.folder.files (λ files. IsSomeAnd (input run.words files) (λ bytes. IsDecoderOf (bytes ∷ []) text))
-      → IsOnlyRead run.folder run.folder_after → WritesText text run.outcome run.out run.out_after run.err run.err_after → (run.outcome ≡ outcomes.Done → run.err_after ≡ run.err) → IsRight run
-  right_text text named due some decoder only writes quiet = record {
-    cause = record {
-      usage = (only_two _ run.outcome outcomes.Usage writes.either (λ e. cc) (λ e. cc), λ none. absurd (named none));
-      unread = only_two _ run.outcome outcomes.ReadFault writes.either (λ e. cc) (λ e. cc);
-      unwritten = writes.cause;
-    };
-    over_known = text_over text run.folder.files due decoder writes;
-    for_some = record {
-      done = λ done. record { text = text; due = some; whole = writes.done done };
-      refused = only_two _ run.outcome outcomes.Refused writes.either (λ e. cc) (λ e. cc);
-      part = λ fault. record { text = text; due = some; prefix = writes.part fault };
-    };
-    said = elim writes.either [
-      | inl done ↦ subst (λ o. IfSome (message_for o run.words) (Reports run.err run.err_after)) (sym done) (reports_nothing run.err run.err_after (quiet done))
-      | inr fault ↦ subst (λ o. IfSome (message_for o run.words) (Reports run.err run.err_after)) (sym fault) (writes.said fault)
-    ];
-    only = record { folder = only; out = writes.out_only; err = writes.err_only };
-  }
+-- a run whose folder was read before
+abbrev pub late : {O E : Type 0} → FolderSeen → RunSeen O E → RunSeen O E
+late mid run = record {
+  outcome = run.outcome;
+  folder = mid;
+  folder_after = run.folder_after;
+  out = run.out;
+  out_after = run.out_after;
+  err = run.err;
+  err_after = run.err_after;
+}
 
-  refusal_over : (message : List ℕ) (known : Option Files) → IfSome known (λ files. IsDue run.words files (refused message)) → run.outcome ≡ outcomes.Refused
-      → Reports run.err run.err_after message → IfSome known (IsRightOver run)
-  refusal_over message None due is says = tt
-  refusal_over message (Some files) due is says = record {
-    done = λ done. absurd (let e : outcomes.Refused ≡ outcomes.Done = subst (λ o. o ≡ outcomes.Done) is done in cc);
-    decoder = λ done. absurd (let e : outcomes.Refused ≡ outcomes.Done = subst (λ o. o ≡ outcomes.Done) is done in cc);
-    refused = λ _. record { text = message; due = due; said = says };
-    missing = λ read. absurd (let e : outcomes.Refused ≡ outcomes.ReadFault = subst (λ o. o ≡ outcomes.ReadFault) is read in cc);
-    part = λ fault. absurd (let e : outcomes.Refused ≡ outcomes.WriteFault = subst (λ o. o ≡ outcomes.WriteFault) is fault in cc);
-    complete = completes_refused run.words files message run.outcome _ _ due is;
-  }
+module _ {O E : Type 0} (asked : Asked) (run : RunSeen O E) where
+  -- what is due decides how a run is completed
+  completes : (files : Files) (made : Due) → IsDue asked files made → Completes made run.outcome (ReadFailed run.folder run.folder_after) (WritingFailed asked.output run) → CompletesOver asked run files
+  completes files made due is = λ what h. subst (λ (d : Due). Completes d run.outcome (ReadFailed run.folder run.folder_after) (WritingFailed asked.output run)) (one_due asked files made what due h) is
 
-  -- a refusal was made
-  pub right_refusal : (message : List ℕ) → (file_named run.words ≡ None → ⊥) → IfSome run.folder.files (λ files. IsDue run.words files (refused message)) → CanBeDue run.words (refused message)
-      → IsOnlyRead run.folder run.folder_after → run.outcome ≡ outcomes.Refused → run.out_after ≡ run.out → Reports run.err run.err_after message → IsRight run
-  right_refusal message named due some only is same says = record {
-    cause = record {
-      usage = (λ usage. absurd (let e : outcomes.Refused ≡ outcomes.Usage = subst (λ o. o ≡ outcomes.Usage) is usage in cc), λ none. absurd (named none));
-      unread = λ read. absurd (let e : outcomes.Refused ≡ outcomes.ReadFault = subst (λ o. o ≡ outcomes.ReadFault) is read in cc);
-      unwritten = λ fault. absurd (let e : outcomes.Refused ≡ outcomes.WriteFault = subst (λ o. o ≡ outcomes.WriteFault) is fault in cc);
-    };
-    over_known = refusal_over message run.folder.files due is says;
-    for_some = record {
-      done = λ done. absurd (let e : outcomes.Refused ≡ outcomes.Done = subst (λ o. o ≡ outcomes.Done) is done in cc);
-      refused = λ _. record { text = message; due = some; said = says };
-      part = λ fault. absurd (let e : outcomes.Refused ≡ outcomes.WriteFault = subst (λ o. o ≡ outcomes.WriteFault) is fault in cc);
-    };
-    said = subst (λ o. IfSome (message_for o run.words) (Reports run.err run.err_after)) (sym is) tt;
-    only = record { folder = only; out = only_the_same run.out run.out_after same; err = says.only };
-  }
+  -- a text was made, and handed over
+  module _ (mid : FolderSeen) (only : IsOnlyRead run.folder mid) (text : List ℕ) (made : IsMade asked run.folder.files text) where
+    stands : (output : Option (List ℕ)) → Stands output (late mid run) text → Stands output run text
+    stands None h = h
+    stands (Some name) h = h ∙ ap (λ known. with_file known name text) only.files
+
+    stands_part : (output : Option (List ℕ)) → StandsPart output (late mid run) text → StandsPart output run text
+    stands_part None h = h
+    stands_part (Some name) h = subst (λ (known : Option Files). LeavesPart known run.folder_after.files name text) only.files h
+
+    writing_failed : (output : Option (List ℕ)) → WritingFailed output (late mid run) → WritingFailed output run
+    writing_failed None h = h
+    writing_failed (Some name) h = subst (λ n. Rose n run.folder_after.write_faults) only.write_faults h
+
+    means : (outcome : Outcome) → DeliveryMeans asked.output text (late mid run) outcome → Means asked run outcome
+    means outcomes.Done h = record { text = text; made = made; whole = stands asked.output h.whole; said = h.said }
+    means outcomes.Refused h = absurd h
+    means outcomes.Usage h = absurd h
+    means outcomes.ReadFault h = absurd h
+    means outcomes.WriteFault h = record { text = text; made = made; part = stands_part asked.output h.part; cause = writing_failed asked.output h.cause; said = h.said }
+    means outcomes.NoMemory h = absurd h
+
+    written_completes : (outcome : Outcome) → DeliveryMeans asked.output text (late mid run) outcome → Completes (written text) outcome (ReadFailed run.folder run.folder_after) (WritingFailed asked.output run)
+    written_completes outcomes.Done h = inl refl
+    written_completes outcomes.Refused h = absurd h
+    written_completes outcomes.Usage h = absurd h
+    written_completes outcomes.ReadFault h = absurd h
+    written_completes outcomes.WriteFault h = inr (inr (inr (writing_failed asked.output h.cause)))
+    written_completes outcomes.NoMemory h = absurd h
+
+    complete_over : (known : Option Files) → IfSome known (λ files. IsTextOf asked (inputs_of files asked.names) text)
+        → Completes (written text) run.outcome (ReadFailed run.folder run.folder_after) (WritingFailed asked.output run) → IfSome known (CompletesOver asked run)
+    complete_over None due is = tt
+    complete_over (Some files) due is = completes files (written text) due.due is
+
+    one_of_two : (outcome : Outcome) → DeliveryMeans asked.output text (late mid run) outcome → (outcome ≢ outcomes.Done) × (outcome ≢ outcomes.WriteFault) → ⊥
+    one_of_two outcomes.Done h neither = neither.0 refl
+    one_of_two outcomes.Refused h neither = h
+    one_of_two outcomes.Usage h neither = h
+    one_of_two outcomes.ReadFault h neither = h
+    one_of_two outcomes.WriteFault h neither = neither.1 refl
+    one_of_two outcomes.NoMemory h neither = h
+
+    pub right_text : Delivers asked.output text (late mid run) → IsRightGen asked run
+    right_text delivers = record {
+      means = means run.outcome delivers.means;
+      complete = complete_over run.folder.files made.known (written_completes run.outcome delivers.means);
+      only = record {
+        counts = falls_not run.folder mid run.folder_after only delivers.counts;
+        read = λ neither. absurd (one_of_two run.outcome delivers.means neither);
+        to_out = λ none. subst (λ (after : FolderSeen). IsOnlyRead run.folder after) (sym (delivers.to_out none)) only;
+        to_file = delivers.to_file;
+        out = delivers.out;
+        err = delivers.err;
+      };
+    }
+
+  -- no text was made
+  module _ (only : IsOnlyRead run.folder run.folder_after) (same : run.out_after ≡ run.out) where
+    stop_changes : IsOnlyWritten run.err run.err_after → ChangesOnly asked.output run
+    stop_changes err = record {
+      counts = read_falls_not run.folder run.folder_after only;
+      read = λ neither. (only, same);
+      to_out = λ none. only;
+      to_file = λ some. same;
+      out = only_the_same run.out run.out_after same;
+      err = err;
+    }
+
+    right_of : (outcome : Outcome) → run.outcome ≡ outcome → Means asked run outcome → IfSome run.folder.files (CompletesOver asked run) → IsOnlyWritten run.err run.err_after → IsRightGen asked run
+    right_of outcome is means complete err = record {
+      means = subst (λ (o : Outcome). Means asked run o) (sym is) means;
+      complete = complete;
+      only = stop_changes err;
+    }
+
+    refusal_complete : (message : List ℕ) (known : Option Files) → run.outcome ≡ outcomes.Refused → IfSome known (λ files. IsDue asked files (refused message)) → IfSome known (CompletesOver asked run)
+    refusal_complete message None is due = tt
+    refusal_complete message (Some files) is due = completes files (refused message) due (inl is)
+
+    -- a read fault completes what is due, whether the input isn't held or a read failed
+    failed_complete : (what : Due) → run.outcome ≡ outcomes.ReadFault → ReadFailed run.folder run.folder_after → Completes what run.outcome (ReadFailed run.folder run.folder_after) (WritingFailed asked.output run)
+    failed_complete (missing file) is failed = inl is
+    failed_complete (refused message) is failed = inr (inr failed)
+    failed_complete (written text) is failed = inr (inr (inl failed))
+
+    missing_due : (files : Files) (file : List ℕ) → texts_in (inputs_of files asked.names) ≡ Err (inputs.missing file) → IsDue asked files (missing file)
+    missing_due files file is = let P : Result (List (List ℕ)) inputs.Unread → Type 0 = λ r. IsDueOfTexts asked r (missing file) in subst P (sym is) refl
+
+    unread_complete : (file : List ℕ) (known : Option Files) → run.outcome ≡ outcomes.ReadFault
+        → IfSome known (λ files. (texts_in (inputs_of files asked.names) ≡ Err (inputs.missing file)) ⊎ ReadFailed run.folder run.folder_after) → IfSome known (CompletesOver asked run)
+    unread_complete file None is h = tt
+    unread_complete file (Some files) is (inl none) = completes files (missing file) (missing_due files file none) (inl is)
+    unread_complete file (Some files) is (inr failed) = λ what due. failed_complete what is failed
+
+    -- want of memory completes anything
+    memory_complete : (what : Due) → run.outcome ≡ outcomes.NoMemory → Completes what run.outcome (ReadFailed run.folder run.folder_after) (WritingFailed asked.output run)
+    memory_complete (missing file) is = inr (inl is)
+    memory_complete (refused message) is = inr (inl is)
+    memory_complete (written text) is = inr (inl is)
+
+    memory_complete_over : (known : Option Files) → run.outcome ≡ outcomes.NoMemory → IfSome known (CompletesOver asked run)
+    memory_complete_over None is = tt
+    memory_complete_over (Some files) is = λ what due. memory_complete what is
+
+    pub right_stop : (stop : Stop) → StopsGen asked run.folder run.folder_after stop → run.outcome ≡ outcome_of stop → Says run (message_of stop) → IsRightGen asked run
+    right_stop (stops.ReadFault message) stop is says =
+        right_of outcomes.ReadFault is
+        (record { place = stop.place; unread = stop.unread; said = subst (λ (m : List ℕ). Says run m) stop.said says })
+        (unread_complete (said.name_at asked.names stop.place) run.folder.files is stop.unread.stops) says.only
+    right_stop (stops.Refused message) stop is says =
+        right_of outcomes.Refused is (record { message = message.items; refusal = stop; said = says }) (refusal_complete message.items run.folder.files is stop.known) says.only
+    right_stop stops.NoMemory stop is says = right_of outcomes.NoMemory is says (memory_complete_over run.folder.files is) says.only

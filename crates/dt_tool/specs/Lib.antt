@@ -1,8 +1,10 @@
-pub mod Words
 pub mod Messages
-pub mod Decoders
+pub mod Inputs
 pub mod Due
+pub mod Decoders
+pub mod View
 pub mod Stops
 pub mod Refusals
 pub mod Statuses
 pub mod Outcomes
+pub mod Delivery

@@ -1,7 +1,10 @@
 -- The texts for standard error (docs/COMMANDS.md, "Rules").
-use Rattle.std.specs.Prelude.{ℕ, List, [], ◌∷◌, ◌++◌, codes, decimal, flat_map, get_or}
+use Rattle.std.specs.Prelude.{ℕ, ◌/◌, List, [], ◌∷◌, ◌++◌, Option, Some, None, codes, decimal, flat_map, get_or}
+use Rattle.std.specs.Option.{option_map}
 use Rattle.dt_text.specs.Hexadecimal.{hex}
 use Rattle.dt_text.specs.Pieces.{text, name, pieces_text}
+use Rattle.dt_values.specs.Widths.{width_bits}
+use Rattle.dt_values.specs.declared.width.Width.{Width}
 use Rattle.dt_lines.specs.declared.line.Position.{Position}
 use Rattle.dt_fields.specs.RuleTexts.{rule_text}
 use Rattle.dt_fields.specs.declared.rule.Rule.{Rule}
@@ -9,9 +12,24 @@ use Rattle.dt_fields.specs.declared.rule.Rule.TheVariants as rule
 use Rattle.dt_forms.specs.Positions.{first_token_at}
 use Rattle.dt_fields.specs.Faults.{Detail, nothing, token, named, number, mask}
 use Rattle.dt_forms.specs.Rules.{Fault}
+use Rattle.dt_words.specs.PrintedWords.{usage_code, printed_word}
+use Rattle.dt_words.specs.declared.usage.Usage.{Usage}
 
-abbrev pub usage : List ℕ
-usage = codes "usage: N1\n"
+abbrev pub line_end : List ℕ
+line_end = pieces_text (text (codes "\n") ∷ [])
+
+-- the faulty word, if there is one
+abbrev pub word_text : Usage → Option (List ℕ) → List ℕ
+word_text usage None = []
+word_text usage (Some word) = pieces_text (text (codes " ") ∷ text (printed_word usage word) ∷ [])
+
+-- what is said of words that aren't understood
+abbrev pub usage_text : Usage → Option (List ℕ) → List ℕ
+usage_text usage word =
+    pieces_text (text (codes "usage: ") ∷ text (usage_code usage) ∷ []) ++ (word_text usage word ++ line_end)
+
+abbrev pub usage_message : List (List ℕ) → Usage × Option ℕ → List ℕ
+usage_message words fault = usage_text fault.0 (option_map (λ place. get_or words place []) fault.1)
 
 abbrev pub cannot_write : List ℕ
 cannot_write = codes "error: cannot write\n"
@@ -29,23 +47,23 @@ cannot_read file = about_file (codes "error: cannot read ") file
 abbrev pub too_large : List ℕ → List ℕ
 too_large file = about_file (codes "error: K0 file too large: ") file
 
--- the bytes of a token or a name, a number in decimal, the bits of a mask in eight hexadecimal digits
+-- the bytes of a token or a name, a number in decimal, the bits of a mask in a hexadecimal digit for each four
 abbrev pub bytes_text : List ℕ → List ℕ
 bytes_text bytes = pieces_text (text (codes ": ") ∷ text bytes ∷ [])
 
 abbrev pub number_text : ℕ → List ℕ
 number_text n = pieces_text (text (codes ": ") ∷ name (decimal n) ∷ [])
 
-abbrev pub mask_text : ℕ → List ℕ
-mask_text m = pieces_text (text (codes ": 0x") ∷ name (hex 8 m) ∷ [])
+abbrev pub mask_text : Width → ℕ → List ℕ
+mask_text width m = pieces_text (text (codes ": 0x") ∷ name (hex (width_bits width / 4) m) ∷ [])
 
--- what stands behind a rule
-abbrev pub detail_text : Detail → List ℕ
-detail_text nothing = []
-detail_text (token bytes) = bytes_text bytes
-detail_text (named bytes) = bytes_text bytes
-detail_text (number n) = number_text n
-detail_text (mask m) = mask_text m
+-- what stands behind a rule, over words of this width
+abbrev pub detail_text : Width → Detail → List ℕ
+detail_text width nothing = []
+detail_text width (token bytes) = bytes_text bytes
+detail_text width (named bytes) = bytes_text bytes
+detail_text width (number n) = number_text n
+detail_text width (mask m) = mask_text width m
 
 -- the name of a file by its place among these
 abbrev pub name_at : List (List ℕ) → ℕ → List ℕ
@@ -57,17 +75,11 @@ place_text kind names position broken =
     pieces_text (text (name_at names position.file) ∷ text (codes ":") ∷ name (decimal position.line)
     ∷ text (codes ": ") ∷ text kind ∷ text (codes ": ") ∷ text (rule_text broken) ∷ [])
 
-abbrev pub line_end : List ℕ
-line_end = pieces_text (text (codes "\n") ∷ [])
-
 -- a line about a broken rule of files with these names
-abbrev pub fault_text : List ℕ → List (List ℕ) → Fault → List ℕ
-fault_text kind names fault =
-    place_text kind names (record { file = fault.file; line = fault.line }) fault.broken.0
-    ++ (detail_text fault.broken.1 ++ line_end)
-
-abbrev pub fault_message : List (List ℕ) → Fault → List ℕ
-fault_message names fault = fault_text (codes "error") names fault
+abbrev pub fault_message : Width → List (List ℕ) → Fault → List ℕ
+fault_message width names fault =
+    place_text (codes "error") names (record { file = fault.file; line = fault.line }) fault.broken.0
+    ++ (detail_text width fault.broken.1 ++ line_end)
 
 -- a line about an entry at a position, by a rule of groups: it names the first token of the line there, which is the
 -- pattern's name, or opens the group

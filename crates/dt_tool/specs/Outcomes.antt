@@ -1,20 +1,21 @@
 -- What a run of the tool promises: each outcome, what is written and said, what stays (docs/COMMANDS.md, "Outcomes").
-use Rattle.std.specs.Prelude.{ℕ, ◌≡◌, ◌⊎◌, ◌↔◌, List, [], ◌∷◌, Option, Some, None, option_map, IfSome, IsSomeAnd}
+use Rattle.std.specs.Prelude.{ℕ, ◌≡◌, ◌≢◌, ◌≤◌, ◌⊎◌, List, Option, Some, None, IfSome, IsSome, Result, Ok, Err}
 use Rattle.dt_io.specs.Bytes.{AppendsPart, extend}
-use Rattle.dt_io.specs.Files.{Files}
-use Rattle.dt_io.specs.Folders.{FolderSeen, IsOnlyRead, Missed, ReadFailed}
+use Rattle.dt_io.specs.Files.{Files, with_file}
+use Rattle.dt_io.specs.Folders.{FolderSeen, ChangeFailed, IsOnlyRead, ReadFailed}
+use Rattle.dt_io.specs.Outputs.{LeavesPart}
 use Rattle.dt_io.specs.Sinks.{SinkSeen, IsOnlyWritten, Reports, WriteFailed}
-use Rattle.dt_tool.specs.Decoders.{AppendsDecoderOf}
-use Rattle.dt_tool.specs.Due.{Due, usage, missing, refused, written, CanBeDue, IsDue, input}
+use Rattle.dt_words.specs.declared.command.Command.{Command}
+use Rattle.dt_words.specs.declared.command.Command.TheVariants as command
+use Rattle.dt_words.specs.declared.usage.Usage.{Usage}
+use Rattle.dt_tool.specs.Due.{Asked, Due, missing, refused, written, IsDue}
 use Rattle.dt_tool.specs.Messages as said
-use Rattle.dt_tool.specs.Stops.{IsMissing}
-use Rattle.dt_tool.specs.Words.{file_named}
+use Rattle.dt_tool.specs.Stops.{IsMade, IsRefusal, IsUnread}
 use Rattle.dt_tool.specs.declared.status.Outcome.{Outcome}
 use Rattle.dt_tool.specs.declared.status.Outcome.TheVariants as outcomes
 
--- what is seen of a run: its words and its outcome, and the folder and the sinks before and after it
+-- what is seen of a run: its outcome, and the folder and the sinks before and after it
 pub record RunSeen (O E : Type 0) : Type 0 where
-  pub words : List (List ℕ)
   pub outcome : Outcome
   pub folder : FolderSeen
   pub folder_after : FolderSeen
@@ -23,38 +24,62 @@ pub record RunSeen (O E : Type 0) : Type 0 where
   pub err : SinkSeen E
   pub err_after : SinkSeen E
 
--- a text that is due came behind what is known, whole
-pub record WritesWhole {R : Type 0} (Fits : Due → Type 0) (before after : SinkSeen R) : Type 0 where
-  pub text : List ℕ
-  pub due : Fits (written text)
-  pub whole : after.written ≡ extend before.written text
+-- a text is where it is to be: behind what is known of `out`, or in the file of this name, and no other file changed
+abbrev pub Stands : {O E : Type 0} → Option (List ℕ) → RunSeen O E → List ℕ → Type 0
+Stands None run text = run.out_after.written ≡ extend run.out.written text
+Stands (Some name) run text = run.folder_after.files ≡ with_file run.folder.files name text
 
--- a prefix of such a text did
-pub record WritesPrefix {R : Type 0} (Fits : Due → Type 0) (before after : SinkSeen R) : Type 0 where
-  pub text : List ℕ
-  pub due : Fits (written text)
-  pub prefix : AppendsPart before.written after.written text
+-- a part of it is there
+abbrev pub StandsPart : {O E : Type 0} → Option (List ℕ) → RunSeen O E → List ℕ → Type 0
+StandsPart None run text = AppendsPart run.out.written run.out_after.written text
+StandsPart (Some name) run text = LeavesPart run.folder.files run.folder_after.files name text
 
--- a refusal that is due was reported
-pub record SaysRefusal {R : Type 0} (Fits : Due → Type 0) (before after : SinkSeen R) : Type 0 where
-  pub text : List ℕ
-  pub due : Fits (refused text)
-  pub said : Reports before after text
+abbrev pub WritingFailed : {O E : Type 0} → Option (List ℕ) → RunSeen O E → Type 0
+WritingFailed None run = WriteFailed run.out run.out_after
+WritingFailed (Some name) run = ChangeFailed run.folder run.folder_after
 
--- a text was written whole, or a write failed: then a prefix was written, and that is said
-pub record WritesText {O E : Type 0} (text : List ℕ) (outcome : Outcome)
-    (out out_after : SinkSeen O) (err err_after : SinkSeen E) : Type 0 where
-  pub either : (outcome ≡ outcomes.Done) ⊎ (outcome ≡ outcomes.WriteFault)
-  pub done : outcome ≡ outcomes.Done → out_after.written ≡ extend out.written text
-  pub part : outcome ≡ outcomes.WriteFault → AppendsPart out.written out_after.written text
-  pub cause : outcome ≡ outcomes.WriteFault → WriteFailed out out_after
-  pub said : outcome ≡ outcomes.WriteFault → Reports err err_after said.cannot_write
-  pub out_only : IsOnlyWritten out out_after
-  pub err_only : IsOnlyWritten err err_after
+-- this was said
+abbrev pub Says : {O E : Type 0} → RunSeen O E → List ℕ → Type 0
+Says run text = Reports run.err run.err_after text
+
+-- a text that is due stands whole, and nothing is said
+pub record WritesText {O E : Type 0} (asked : Asked) (run : RunSeen O E) : Type 0 where
+  pub text : List ℕ
+  pub made : IsMade asked run.folder.files text
+  pub whole : Stands asked.output run text
+  pub said : run.err_after ≡ run.err
+
+-- a part of such a text stands, since a write failed, and that is said
+pub record WritesPart {O E : Type 0} (asked : Asked) (run : RunSeen O E) : Type 0 where
+  pub text : List ℕ
+  pub made : IsMade asked run.folder.files text
+  pub part : StandsPart asked.output run text
+  pub cause : WritingFailed asked.output run
+  pub said : Says run said.cannot_write
+
+-- a refusal that is due is said
+pub record SaysRefusal {O E : Type 0} (asked : Asked) (run : RunSeen O E) : Type 0 where
+  pub message : List ℕ
+  pub refusal : IsRefusal asked run.folder.files message
+  pub said : Says run message
+
+-- a file where the reading stops is named
+pub record NamesUnread {O E : Type 0} (asked : Asked) (run : RunSeen O E) : Type 0 where
+  pub place : ℕ
+  pub unread : IsUnread run.folder run.folder_after asked.names place
+  pub said : Says run (said.cannot_read (said.name_at asked.names place))
+
+-- what each outcome means, with what is said for it
+abbrev pub Means : {O E : Type 0} → Asked → RunSeen O E → Outcome → Type 0
+Means asked run outcomes.Done = WritesText asked run
+Means asked run outcomes.Refused = SaysRefusal asked run
+Means asked run outcomes.Usage = ⊥
+Means asked run outcomes.ReadFault = NamesUnread asked run
+Means asked run outcomes.WriteFault = WritesPart asked run
+Means asked run outcomes.NoMemory = Says run said.no_memory
 
 -- while memory, reads and writes last, the outcome is that of what is due
 abbrev pub Completes : Due → Outcome → Type 0 → Type 0 → Type 0
-Completes usage outcome ReadFails WriteFails = outcome ≡ outcomes.Usage
 Completes (missing file) outcome ReadFails WriteFails =
     (outcome ≡ outcomes.ReadFault) ⊎ ((outcome ≡ outcomes.NoMemory) ⊎ ReadFails)
 Completes (refused message) outcome ReadFails WriteFails =
@@ -62,53 +87,56 @@ Completes (refused message) outcome ReadFails WriteFails =
 Completes (written text) outcome ReadFails WriteFails =
     (outcome ≡ outcomes.Done) ⊎ ((outcome ≡ outcomes.NoMemory) ⊎ (ReadFails ⊎ WriteFails))
 
-abbrev pub CompletesRun : {O E : Type 0} → RunSeen O E → Due → Type 0
-CompletesRun run what =
-    Completes what run.outcome (ReadFailed run.folder run.folder_after) (WriteFailed run.out run.out_after)
+abbrev pub CompletesOver : {O E : Type 0} → Asked → RunSeen O E → Files → Type 0
+CompletesOver asked run files = (what : Due) → IsDue asked files what
+    → Completes what run.outcome (ReadFailed run.folder run.folder_after) (WritingFailed asked.output run)
 
--- over files that are known
-pub record IsRightOver {O E : Type 0} (run : RunSeen O E) (files : Files) : Type 0 where
-  pub done : run.outcome ≡ outcomes.Done → WritesWhole (IsDue run.words files) run.out run.out_after
-  pub decoder : run.outcome ≡ outcomes.Done → IsSomeAnd (input run.words files)
-      (λ bytes. AppendsDecoderOf (bytes ∷ []) run.out.written run.out_after.written)
-  pub refused : run.outcome ≡ outcomes.Refused → SaysRefusal (IsDue run.words files) run.err run.err_after
-  pub missing : run.outcome ≡ outcomes.ReadFault
-      → IsMissing (IsDue run.words files) ⊎ ReadFailed run.folder run.folder_after
-  pub part : run.outcome ≡ outcomes.WriteFault → WritesPrefix (IsDue run.words files) run.out run.out_after
-  pub complete : (what : Due) → IsDue run.words files what → CompletesRun run what
+-- no count of the folder falls
+pub record NoCountFalls (before after : FolderSeen) : Type 0 where
+  pub misses : before.misses ≤ after.misses
+  pub read_faults : before.read_faults ≤ after.read_faults
+  pub write_faults : before.write_faults ≤ after.write_faults
+  pub reads : before.reads ≤ after.reads
 
--- over any files: a text or a refusal is one for some content of the named file
-pub record IsRightForSome {O E : Type 0} (run : RunSeen O E) : Type 0 where
-  pub done : run.outcome ≡ outcomes.Done → WritesWhole (CanBeDue run.words) run.out run.out_after
-  pub refused : run.outcome ≡ outcomes.Refused → SaysRefusal (CanBeDue run.words) run.err run.err_after
-  pub part : run.outcome ≡ outcomes.WriteFault → WritesPrefix (CanBeDue run.words) run.out run.out_after
-
--- the cause of each outcome that has one outside of the file's text
-pub record HasCause {O E : Type 0} (run : RunSeen O E) : Type 0 where
-  pub usage : (run.outcome ≡ outcomes.Usage) ↔ (file_named run.words ≡ None)
-  pub unread : run.outcome ≡ outcomes.ReadFault
-      → Missed run.folder run.folder_after ⊎ ReadFailed run.folder run.folder_after
-  pub unwritten : run.outcome ≡ outcomes.WriteFault → WriteFailed run.out run.out_after
-
--- no file is changed, no count falls, and nothing but bytes and counts of the sinks
-pub record ChangesOnly {O E : Type 0} (run : RunSeen O E) : Type 0 where
-  pub folder : IsOnlyRead run.folder run.folder_after
+-- No count falls, and nothing but bytes of the sinks and the file of the output changes. That file changes, and `out` is
+-- written to, only where the outcome says so.
+pub record ChangesOnly {O E : Type 0} (output : Option (List ℕ)) (run : RunSeen O E) : Type 0 where
+  pub counts : NoCountFalls run.folder run.folder_after
+  pub read : (run.outcome ≢ outcomes.Done) × (run.outcome ≢ outcomes.WriteFault)
+      → IsOnlyRead run.folder run.folder_after × (run.out_after ≡ run.out)
+  pub to_out : output ≡ None → IsOnlyRead run.folder run.folder_after
+  pub to_file : IsSome output → run.out_after ≡ run.out
   pub out : IsOnlyWritten run.out run.out_after
   pub err : IsOnlyWritten run.err run.err_after
 
--- what is said for an outcome; what is said of a refusal depends on what is due
-abbrev pub message_for : Outcome → List (List ℕ) → Option (List ℕ)
-message_for outcomes.Done words = Some []
-message_for outcomes.Refused words = None
-message_for outcomes.Usage words = Some said.usage
-message_for outcomes.ReadFault words = option_map said.cannot_read (file_named words)
-message_for outcomes.WriteFault words = Some said.cannot_write
-message_for outcomes.NoMemory words = Some said.no_memory
+-- the promise of a run of `gen`
+pub record IsRightGen {O E : Type 0} (asked : Asked) (run : RunSeen O E) : Type 0 where
+  pub means : Means asked run run.outcome
+  pub complete : IfSome run.folder.files (CompletesOver asked run)
+  pub only : ChangesOnly asked.output run
 
--- the whole promise of a run
-pub record IsRight {O E : Type 0} (run : RunSeen O E) : Type 0 where
-  pub cause : HasCause run
-  pub over_known : IfSome run.folder.files (IsRightOver run)
-  pub for_some : IsRightForSome run
-  pub said : IfSome (message_for run.outcome run.words) (Reports run.err run.err_after)
-  pub only : ChangesOnly run
+-- what an outcome means where the words are no command, of which this is to be said
+abbrev pub MeansUsage : {O E : Type 0} → List ℕ → RunSeen O E → Outcome → Type 0
+MeansUsage message run outcomes.Done = ⊥
+MeansUsage message run outcomes.Refused = ⊥
+MeansUsage message run outcomes.Usage = Says run message
+MeansUsage message run outcomes.ReadFault = ⊥
+MeansUsage message run outcomes.WriteFault = ⊥
+MeansUsage message run outcomes.NoMemory = Says run said.no_memory
+
+-- the promise of such a run
+pub record IsRightUsage {O E : Type 0} (message : List ℕ) (run : RunSeen O E) : Type 0 where
+  pub means : MeansUsage message run run.outcome
+  pub folder : run.folder_after ≡ run.folder
+  pub out : run.out_after ≡ run.out
+
+-- the file that a command writes to, if it is one and names it
+abbrev pub output_named : {F : Type 0} → Result Command F → Option (List ℕ)
+output_named (Err fault) = None
+output_named (Ok (command.Gen options output names test)) = output
+
+-- the promise of a run with these words, which are this command, or aren't one
+abbrev pub IsRight : {O E : Type 0} → List (List ℕ) → Result Command (Usage × Option ℕ) → RunSeen O E → Type 0
+IsRight words (Err fault) run = IsRightUsage (said.usage_message words fault) run
+IsRight words (Ok (command.Gen options output names test)) run =
+    IsRightGen (record { options = options; output = output; names = names }) run

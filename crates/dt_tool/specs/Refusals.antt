@@ -1,6 +1,7 @@
 -- How a refusal names what the inputs break: a fault of a file or a line, an empty group, or a knot (docs/COMMANDS.md,
 -- "Rules").
 use Rattle.std.specs.Prelude.{ℕ, ◌≡◌, ◌⊎◌, List, Option, Some}
+use Rattle.dt_values.specs.declared.width.Width.{Width}
 use Rattle.dt_lines.specs.declared.line.Position.{Position}
 use Rattle.dt_forms.specs.declared.fault.ModelFault.{ModelFault}
 use Rattle.dt_forms.specs.declared.fault.ModelFault.TheVariants as faults
@@ -28,22 +29,21 @@ IsFaultWithin sources faults.NoMemory = Unit {0}
 abbrev pub SaysThis : Stop → List ℕ → Type 0
 SaysThis stop message = Refuses stop (λ due. due ≡ refused message)
 
-abbrev pub SaysFault : List (List ℕ) → List Source → ModelFault → Stop → Type 0
-SaysFault names sources (faults.Broken fault) stop =
-    SaysThis stop (said.fault_message names (fault_seen (text_of_file sources fault.file) fault))
-SaysFault names sources faults.NoMemory stop = stop ≡ stops.NoMemory
+abbrev pub SaysFault : Width → List (List ℕ) → List Source → ModelFault → Stop → Type 0
+SaysFault width names sources (faults.Broken fault) stop =
+    SaysThis stop (said.fault_message width names (fault_seen (text_of_file sources fault.file) fault))
+SaysFault width names sources faults.NoMemory stop = stop ≡ stops.NoMemory
 
 -- a text names this fault, which there is
-pub record NamesFault (names : List (List ℕ)) (expected : Option Fault) (text : List ℕ) : Type 0 where
+pub record NamesFault (width : Width) (names : List (List ℕ)) (expected : Option Fault) (text : List ℕ) : Type 0 where
   pub fault : Fault
   pub there : expected ≡ Some fault
-  pub shown : text ≡ said.fault_message names fault
+  pub shown : text ≡ said.fault_message width names fault
 
-abbrev pub RefusesFault : Stop → List (List ℕ) → Option Fault → Type 0
-RefusesFault stops.Usage names expected = ⊥
-RefusesFault (stops.ReadFault message) names expected = ⊥
-RefusesFault (stops.Refused message) names expected = NamesFault names expected message.items
-RefusesFault stops.NoMemory names expected = Unit {0}
+abbrev pub RefusesFault : Stop → Width → List (List ℕ) → Option Fault → Type 0
+RefusesFault (stops.ReadFault message) width names expected = ⊥
+RefusesFault (stops.Refused message) width names expected = NamesFault width names expected message.items
+RefusesFault stops.NoMemory width names expected = Unit {0}
 
 -- a text names the first group that has no entry, by its position
 pub record NamesEmpty (names texts : List (List ℕ)) (items : Items) (text : List ℕ) : Type 0 where
@@ -59,7 +59,6 @@ pub record NamesKnot (names texts : List (List ℕ)) (ps : List FlatPattern) (it
   pub shown : text ≡ said.overlap_message names texts positions
 
 abbrev pub RefusesEntries : Stop → List (List ℕ) → List (List ℕ) → List FlatPattern → Items → Type 0
-RefusesEntries stops.Usage names texts ps items = ⊥
 RefusesEntries (stops.ReadFault message) names texts ps items = ⊥
 RefusesEntries (stops.Refused message) names texts ps items =
     NamesEmpty names texts items message.items ⊎ NamesKnot names texts ps items message.items

@@ -1,59 +1,101 @@
--- How what was made, or what stopped it, answers what is due.
-use Rattle.std.specs.Prelude.{ℕ, ◌≡◌, ◌<◌, ◌⊎◌, List, length, Result, Ok, Err, Vec}
-use Rattle.dt_io.specs.Files.{Held, NotHeld}
+-- What comes of the files that are read: a text, or what stops on the way to it.
+use Rattle.std.specs.Prelude.{ℕ, ◌≡◌, ◌<◌, ◌≤◌, ◌⊎◌, List, length, take, All, Option, Result, Ok, Err, IfSome, IsOk, Vec}
+use Rattle.dt_io.specs.Files.{Files, Held, NotHeld}
 use Rattle.dt_io.specs.Folders.{FolderSeen, Missed, ReadFailed}
 use Rattle.dt_lines.specs.declared.scan.TheConstants.{LARGEST_FILE}
-use Rattle.dt_tool.specs.Due.{Due, usage, missing, refused, written, CanBeDue}
+use Rattle.dt_tool.specs.Decoders.{DecodesInputs}
+use Rattle.dt_tool.specs.Due.{Asked, Due, refused, written, IsDue, IsDueOfInputs}
+use Rattle.dt_tool.specs.Inputs.{Input, missing, too_large, inputs_of, texts_in, AreSomeInputs}
 use Rattle.dt_tool.specs.Messages as said
 use Rattle.dt_tool.specs.declared.generate.Stop.{Stop}
 use Rattle.dt_tool.specs.declared.generate.Stop.TheVariants as stops
 
--- an input that isn't held is due
-pub record IsMissing (IsDue : Due → Type 0) : Type 0 where
-  pub file : List ℕ
-  pub due : IsDue (missing file)
+-- a text is due for these inputs, and decodes what they say
+pub record IsTextOf (asked : Asked) (inputs : List Input) (text : List ℕ) : Type 0 where
+  pub due : IsDueOfInputs asked inputs (written text)
+  pub decoder : DecodesInputs asked.options inputs text
 
--- A text is what is due, or a stop is. That memory runs out says nothing; a read that failed may stand for any file.
-abbrev pub AnswersDue : {A : Type 0} → Type 0 → Result (Vec ℕ A) Stop → (Due → Type 0) → Type 0
-AnswersDue Failed (Ok text) IsDue = IsDue (written text.items)
-AnswersDue Failed (Err stops.Usage) IsDue = IsDue usage
-AnswersDue Failed (Err (stops.ReadFault message)) IsDue = IsMissing IsDue ⊎ Failed
-AnswersDue Failed (Err (stops.Refused message)) IsDue = IsDue (refused message.items)
-AnswersDue Failed (Err stops.NoMemory) IsDue = Unit {0}
+-- some bytes in the files that are named make this so; two readings of one name may give different ones
+pub record ForSome (asked : Asked) (P : List Input → Type 0) : Type 0 where
+  pub inputs : List Input
+  pub some : AreSomeInputs asked.names inputs
+  pub holds : P inputs
 
--- a text, or what is said of a refusal, is due for some content of the file that the words name, also where the folder's
--- files aren't known
-abbrev pub IsForSome : {A : Type 0} → Result (Vec ℕ A) Stop → List (List ℕ) → Type 0
-IsForSome (Ok text) words = CanBeDue words (written text.items)
-IsForSome (Err stops.Usage) words = Unit {0}
-IsForSome (Err (stops.ReadFault message)) words = Unit {0}
-IsForSome (Err (stops.Refused message)) words = CanBeDue words (refused message.items)
-IsForSome (Err stops.NoMemory) words = Unit {0}
+-- a text is due and decodes, over the files where they are known, and for some bytes in them
+pub record IsMade (asked : Asked) (files : Option Files) (text : List ℕ) : Type 0 where
+  pub known : IfSome files (λ files. IsTextOf asked (inputs_of files asked.names) text)
+  pub some : ForSome asked (λ inputs. IsTextOf asked inputs text)
+
+-- a refusal with this message is due, over the files where they are known, and for some bytes in them
+pub record IsRefusal (asked : Asked) (files : Option Files) (message : List ℕ) : Type 0 where
+  pub known : IfSome files (λ files. IsDue asked files (refused message))
+  pub some : ForSome asked (λ inputs. IsDueOfInputs asked inputs (refused message))
+
+-- the reading of files of these names stops at the one at this place, and why; those before it were read
+pub record IsUnread (before after : FolderSeen) (names : List (List ℕ)) (place : ℕ) : Type 0 where
+  pub named : place < length names
+  pub cause : Missed before after ⊎ ReadFailed before after
+  pub stops : IfSome before.files (λ files.
+      (texts_in (inputs_of files names) ≡ Err (missing (said.name_at names place))) ⊎ ReadFailed before after)
+  pub earlier : IfSome before.files (λ files. IsOk (texts_in (inputs_of files (take place names))))
+
+-- and this is said of it
+pub record SaysUnread (before after : FolderSeen) (names : List (List ℕ)) (message : List ℕ) : Type 0 where
+  pub place : ℕ
+  pub unread : IsUnread before after names place
+  pub said : message ≡ said.cannot_read (said.name_at names place)
+
+-- why `gen` makes no text; that memory runs out has no cause
+abbrev pub StopsGen : Asked → FolderSeen → FolderSeen → Stop → Type 0
+StopsGen asked before after (stops.ReadFault message) = SaysUnread before after asked.names message.items
+StopsGen asked before after (stops.Refused message) = IsRefusal asked before.files message.items
+StopsGen asked before after stops.NoMemory = Unit {0}
+
+abbrev pub AnswersGen : {A : Type 0} → Asked → FolderSeen → FolderSeen → Result (Vec ℕ A) Stop → Type 0
+AnswersGen asked before after (Ok text) = IsMade asked before.files text.items
+AnswersGen asked before after (Err stop) = StopsGen asked before after stop
 
 -- a refusal says what is due; no other stop but that memory runs out comes
 abbrev pub Refuses : Stop → (Due → Type 0) → Type 0
-Refuses stops.Usage IsDue = ⊥
 Refuses (stops.ReadFault message) IsDue = ⊥
 Refuses (stops.Refused message) IsDue = IsDue (refused message.items)
 Refuses stops.NoMemory IsDue = Unit {0}
 
--- what is said of a file that isn't read, and why it isn't
-pub record IsUnread (before after : FolderSeen) (file message : List ℕ) : Type 0 where
+-- a text of files that are read is what is due, or a refusal is
+abbrev pub MakesDue : {A : Type 0} → Result (Vec ℕ A) Stop → (Due → Type 0) → Type 0
+MakesDue (Ok text) IsDue = IsDue (written text.items)
+MakesDue (Err stop) IsDue = Refuses stop IsDue
+
+-- why a file wasn't read, with what is said of it
+pub record SaysUnreadFile (before after : FolderSeen) (file message : List ℕ) : Type 0 where
   pub said : message ≡ said.cannot_read file
   pub cause : Missed before after ⊎ ReadFailed before after
   pub missing : NotHeld before.files file ⊎ ReadFailed before after
 
--- why a file wasn't loaded, with what is said of it
+-- why a file wasn't loaded
 abbrev pub StopsLoad : FolderSeen → FolderSeen → List ℕ → Stop → Type 0
-StopsLoad before after file stops.Usage = ⊥
-StopsLoad before after file (stops.ReadFault message) = IsUnread before after file message.items
+StopsLoad before after file (stops.ReadFault message) = SaysUnreadFile before after file message.items
 StopsLoad before after file (stops.Refused message) =
     (message.items ≡ said.too_large file) × Held before.files file (λ held. LARGEST_FILE < length held)
 StopsLoad before after file stops.NoMemory = Unit {0}
 
--- what a stop says of a file that wasn't read
-abbrev pub SaysUnread : FolderSeen → FolderSeen → List ℕ → Stop → Type 0
-SaysUnread before after file stops.Usage = Unit {0}
-SaysUnread before after file (stops.ReadFault message) = IsUnread before after file message.items
-SaysUnread before after file (stops.Refused message) = Unit {0}
-SaysUnread before after file stops.NoMemory = Unit {0}
+-- these are the texts of the files of these names
+pub record AreLoaded (known : Option Files) (names texts : List (List ℕ)) : Type 0 where
+  pub all : length texts ≡ length names
+  pub small : All (λ text. length text ≤ LARGEST_FILE) texts
+  pub bytes : All (All (λ b. b < 256)) texts
+  pub held : IfSome known (λ files. texts_in (inputs_of files names) ≡ Ok texts)
+
+-- one of the files is too large, and this is said of it
+pub record SaysTooLarge (known : Option Files) (names : List (List ℕ)) (message : List ℕ) : Type 0 where
+  pub place : ℕ
+  pub named : place < length names
+  pub stops : IfSome known (λ files.
+      texts_in (inputs_of files names) ≡ Err (too_large (said.name_at names place)))
+  pub said : message ≡ said.too_large (said.name_at names place)
+
+-- why not all of the files were loaded
+abbrev pub StopsLoading : FolderSeen → FolderSeen → List (List ℕ) → Stop → Type 0
+StopsLoading before after names (stops.ReadFault message) = SaysUnread before after names message.items
+StopsLoading before after names (stops.Refused message) = SaysTooLarge before.files names message.items
+StopsLoading before after names stops.NoMemory = Unit {0}

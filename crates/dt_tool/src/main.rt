@@ -1,14 +1,15 @@
-//! Makes a C decoder of a pattern file.
+//! Makes a C decoder of pattern files.
 #![tactic(auto)]
 
 pub mod generate;
+pub mod inputs;
 pub mod laws;
 pub mod messages;
+pub mod run;
 pub mod status;
 #[cfg(test)]
 mod tests;
 pub mod tool;
-pub mod words;
 
 use crate::tool::{no_memory, tool};
 use dt_io::{RealFolder, RealSink, write_all};

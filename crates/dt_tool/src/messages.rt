@@ -7,28 +7,48 @@ ghost use Rattle.dt_forms.specs.Sources.{AreSources};
 ghost use Rattle.dt_fields.specs.View.{IsDetailWithin, detail_seen};
 ghost use Rattle.dt_forms.specs.View.{fault_seen, text_of_file, texts_of};
 ghost use Rattle.dt_tool.specs.Messages as said;
-ghost use Rattle.dt_tool.specs.Words.{names_seen};
+ghost use Rattle.dt_words.specs.View.{value_seen};
 
 use dt_fields::{Detail, Rule};
 use dt_forms::{Fault, Source, first_token};
 use dt_lines::Position;
 use dt_text::{GrowingSink, Out, Part, write_parts};
+use dt_values::Width;
+use dt_words::{Text, Usage, printed_word};
 use std::alloc::{AllocError, Global};
 
-/// What is said where the words aren't understood.
-pub const USAGE: &[u8] = b"usage: N1\n";
-
-/// What is said where `out` refuses a write.
+/// What is said where a write fails.
 pub const CANNOT_WRITE: &[u8] = b"error: cannot write\n";
 
 /// What is said where memory runs out.
 pub const NO_MEMORY: &[u8] = b"error: no memory\n";
 
-/// The files that a message speaks of: their names, and those of them that were read, each at the same place.
+/// The files that a message speaks of: the width of their words, their names, and those of them that were read, each at
+/// the same place.
 #[derive(Clone, Copy)]
 pub struct Inputs<'a> {
-    pub names: &'a [&'a str],
+    pub width: Width,
+    pub names: &'a [Text],
     pub sources: &'a [Source],
+}
+
+/// What is said where the words aren't understood, with the faulty word if there is one.
+pub fn usage_message(alloc: Global, usage: Usage, word: Option<&str>) -> Result<Vec<u8>, AllocError>
+    ensures { IfOk result (λ text. text.items ≡ said.usage_text usage (value_seen word.entry)) }
+{
+    let mut out = GrowingSink::new(alloc);
+    write_parts(
+        &mut out,
+        &[Part::Text(b"usage: "), Part::Text(usage.code().as_bytes())],
+    );
+    if let Some(word) = word {
+        write_parts(
+            &mut out,
+            &[Part::Text(b" "), Part::Text(printed_word(usage, word))],
+        );
+    }
+    write_line_end(&mut out);
+    out.into_text()
 }
 
 /// What is said where a file isn't read.
@@ -64,11 +84,11 @@ fn about_file<'a>(alloc: Global, prefix: &'a [u8], file: &'a str) -> Result<Vec<
 /// What is said of a broken rule. A token in its detail is a place in the bytes of its file.
 pub fn fault_message(alloc: Global, inputs: Inputs, fault: &Fault) -> Result<Vec<u8>, AllocError>
     requires { IsDetailWithin (text_of_file inputs.sources.now fault.now.file) fault.now.detail }
-    ensures { IfOk result (λ text. text.items ≡ said.fault_message (names_seen inputs.entry.names.now)
+    ensures { IfOk result (λ text. text.items ≡ said.fault_message inputs.entry.width inputs.entry.names.now
         (fault_seen (text_of_file inputs.entry.sources.now fault.now.file) fault.now)) }
 {
     let mut out = GrowingSink::new(alloc);
-    write_fault(&mut out, b"error", inputs, fault);
+    write_fault(&mut out, inputs, fault);
     out.into_text()
 }
 
@@ -80,7 +100,7 @@ pub fn entry_message(
     rule: Rule,
 ) -> Result<Vec<u8>, AllocError>
     requires { AreSources inputs.sources.now }
-    ensures { IfOk result (λ text. text.items ≡ said.entry_message rule (names_seen inputs.entry.names.now)
+    ensures { IfOk result (λ text. text.items ≡ said.entry_message rule inputs.entry.names.now
         (texts_of inputs.entry.sources.now) position) }
 {
     let mut out = GrowingSink::new(alloc);
@@ -96,7 +116,7 @@ pub fn overlap_message(
 ) -> Result<Vec<u8>, AllocError>
     requires { AreSources inputs.sources.now }
     ensures { IfOk result (λ text. text.items
-        ≡ said.overlap_message (names_seen inputs.entry.names.now) (texts_of inputs.entry.sources.now) positions.now) }
+        ≡ said.overlap_message inputs.entry.names.now (texts_of inputs.entry.sources.now) positions.now) }
 {
     let mut out = GrowingSink::new(alloc);
     write_overlaps(&mut out, inputs, positions);
@@ -107,7 +127,7 @@ pub fn overlap_message(
 fn write_overlaps<W: Out>(out: &mut W, inputs: Inputs, positions: &[Position])
     requires { AreSources inputs.sources.now }
     ensures { Puts (W.state out.old) (W.state out.new)
-        (said.overlap_message (names_seen inputs.entry.names.now) (texts_of inputs.entry.sources.now) positions.now) }
+        (said.overlap_message inputs.entry.names.now (texts_of inputs.entry.sources.now) positions.now) }
 {
     let Some((first, others)) = positions.split_first() else {
         return;
@@ -121,7 +141,7 @@ fn write_overlaps<W: Out>(out: &mut W, inputs: Inputs, positions: &[Position])
 fn write_notes<W: Out>(out: &mut W, inputs: Inputs, positions: &[Position])
     requires { AreSources inputs.sources.now }
     ensures { Puts (W.state out.old) (W.state out.new) (flat_map
-        (said.entry_text (codes "note") rule.H2 (names_seen inputs.entry.names.now)
+        (said.entry_text (codes "note") rule.H2 inputs.entry.names.now
         (texts_of inputs.entry.sources.now))
         positions.now) }
 {
@@ -134,7 +154,7 @@ fn write_notes<W: Out>(out: &mut W, inputs: Inputs, positions: &[Position])
 fn write_entry<W: Out>(out: &mut W, kind: &[u8], inputs: Inputs, position: Position, rule: Rule)
     requires { AreSources inputs.sources.now }
     ensures { Puts (W.state out.old) (W.state out.new) (said.entry_text kind.now rule
-        (names_seen inputs.entry.names.now) (texts_of inputs.entry.sources.now) position) }
+        inputs.entry.names.now (texts_of inputs.entry.sources.now) position) }
 {
     let token = first_token(inputs.sources, position);
     write_place(out, kind, inputs, position, rule);
@@ -143,27 +163,32 @@ fn write_entry<W: Out>(out: &mut W, kind: &[u8], inputs: Inputs, position: Posit
 }
 
 // A line about a broken rule.
-fn write_fault<W: Out>(out: &mut W, kind: &[u8], inputs: Inputs, fault: &Fault)
+fn write_fault<W: Out>(out: &mut W, inputs: Inputs, fault: &Fault)
     requires { IsDetailWithin (text_of_file inputs.sources.now fault.now.file) fault.now.detail }
-    ensures { Puts (W.state out.old) (W.state out.new) (said.fault_text kind.now (names_seen inputs.entry.names.now)
+    ensures { Puts (W.state out.old) (W.state out.new) (said.fault_message inputs.entry.width inputs.entry.names.now
         (fault_seen (text_of_file inputs.entry.sources.now fault.now.file) fault.now)) }
 {
     let position = Position {
         file: fault.file,
         line: fault.line,
     };
-    write_place(out, kind, inputs, position, fault.rule);
-    write_detail(out, bytes_at(inputs.sources, fault.file), &fault.detail);
+    write_place(out, b"error", inputs, position, fault.rule);
+    write_detail(
+        out,
+        inputs.width,
+        bytes_at(inputs.sources, fault.file),
+        &fault.detail,
+    );
     write_line_end(out);
 }
 
 // The name of the file at a place, empty where there is none.
-fn name_at<'a>(names: &'a [&'a str], file: u16) -> &'a str
-    ensures { result.now ≡ said.name_at (names_seen names.now) file }
+fn name_at(names: &[Text], file: u16) -> &[u8]
+    ensures { result.now ≡ said.name_at names.now file }
 {
     match names.get(file as usize) {
-        Some(name) => name,
-        None => "",
+        Some(name) => name.items(),
+        None => b"",
     }
 }
 
@@ -186,12 +211,12 @@ fn write_place<'a, W: Out>(
     rule: Rule,
 )
     ensures { Puts (W.state out.old) (W.state out.new)
-        (said.place_text kind.now (names_seen inputs.entry.names.now) position rule) }
+        (said.place_text kind.now inputs.entry.names.now position rule) }
 {
     write_parts(
         out,
         &[
-            Part::Text(name_at(inputs.names, position.file).as_bytes()),
+            Part::Text(name_at(inputs.names, position.file)),
             Part::Text(b":"),
             Part::Decimal(position.line as u64),
             Part::Text(b": "),
@@ -210,16 +235,16 @@ fn write_line_end<W: Out>(out: &mut W)
 
 // What stands behind a rule.
 #[tactic(auto, using(dt_text::proofs::Putting::puts_nothing))]
-fn write_detail<W: Out>(out: &mut W, bytes: &[u8], detail: &Detail)
+fn write_detail<W: Out>(out: &mut W, width: Width, bytes: &[u8], detail: &Detail)
     requires { IsDetailWithin bytes.now detail.now }
-    ensures { Puts (W.state out.old) (W.state out.new) (said.detail_text (detail_seen bytes.now detail.now)) }
+    ensures { Puts (W.state out.old) (W.state out.new) (said.detail_text width (detail_seen bytes.now detail.now)) }
 {
     match *detail {
         Detail::None => {}
         Detail::Text(span) => write_bytes(out, span.text(bytes)),
         Detail::Named(name) => write_bytes(out, name.bytes()),
         Detail::Number(number) => write_number(out, number),
-        Detail::Mask(mask) => write_mask(out, mask),
+        Detail::Mask(mask) => write_mask(out, width, mask),
     }
 }
 
@@ -235,16 +260,15 @@ fn write_number<W: Out>(out: &mut W, number: u64)
     write_parts(out, &[Part::Text(b": "), Part::Decimal(number)]);
 }
 
-// A mask has eight digits while words have 32 bits.
-fn write_mask<W: Out>(out: &mut W, mask: u64)
-    ensures { Puts (W.state out.old) (W.state out.new) (said.mask_text mask) }
+fn write_mask<W: Out>(out: &mut W, width: Width, mask: u64)
+    ensures { Puts (W.state out.old) (W.state out.new) (said.mask_text width mask) }
 {
     write_parts(
         out,
         &[
             Part::Text(b": 0x"),
             Part::Hex {
-                digits: 8,
+                digits: width.bits() / 4,
                 value: mask,
             },
         ],

@@ -29,13 +29,15 @@ pub struct Status {
 impl Status {
     ghost use Rattle.dt_tool.specs.Statuses.{exit_status};
 
-    /// The status of an outcome.
-    pub fn of(outcome: Outcome) -> Status
+    /// The status of an outcome. Under a test for errors the numbers of success and of a refusal change places.
+    pub fn of(outcome: Outcome, test: bool) -> Status
         ensures outcome { result.outcome ≡ outcome }
-        ensures number { result.number ≡ exit_status outcome }
+        ensures number { result.number ≡ exit_status test outcome }
     {
         let number = match outcome {
+            Outcome::Done if test => 1,
             Outcome::Done => 0,
+            Outcome::Refused if test => 0,
             Outcome::Refused => 1,
             Outcome::Usage => 2,
             Outcome::ReadFault => 3,

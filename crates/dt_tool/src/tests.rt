@@ -1,12 +1,14 @@
 //! Runs of the whole command, by subject. The expected texts are those of the documents.
 
 mod arguments;
+mod command_line;
 mod definitions;
 mod format_texts;
 mod formats;
 mod group_texts;
 mod groups;
 mod outcomes;
+mod outputs;
 mod refusals;
 mod runs;
 mod texts;

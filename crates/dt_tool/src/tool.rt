@@ -1,20 +1,26 @@
 //! The command: reads what the words name, and writes what is due.
 
-ghost use Rattle.std.specs.Prelude.{◌≡◌, ◌≢◌, codes};
+ghost use Rattle.std.specs.Prelude.{◌≡◌, ◌≢◌, ◌⊎◌, ◌<◌, IfSome, IsSome, [], false, get_or, length};
+ghost use Rattle.std.specs.Option.{option_map};
 ghost use Rattle.dt_io.specs.Sinks.{Reports};
-ghost use Rattle.dt_tool.specs.Outcomes.{IsRight, WritesText};
-ghost use Rattle.dt_tool.specs.Statuses.{exit_status};
-ghost use Rattle.dt_tool.specs.Words.{texts};
+ghost use Rattle.dt_words.specs.Commands.{command_of};
+ghost use Rattle.dt_words.specs.View.{texts, value_seen};
+ghost use Rattle.dt_tool.specs.Messages as said;
+ghost use Rattle.dt_tool.specs.Outcomes.{IsRight, output_named};
+ghost use Rattle.dt_tool.specs.Statuses.{exit_status, tests_errors};
 
-use crate::generate::{Stop, generate};
+use crate::generate::Request;
 use crate::messages;
+use crate::run::run_gen;
 use crate::status::{Outcome, Status};
-use dt_io::{Folder, Sink, report, write_all};
+use dt_io::{Folder, Sink, report};
+use dt_words::{Command, Usage, WordFault, read_words};
 use std::alloc::Global;
 
-/// Makes the C decoder of the pattern file that the words name, and writes it to `out`.
-/// What went wrong is said on `err`, whose own failures change no status.
-/// `words` doesn't hold the program's name. All memory is taken before the first byte is written.
+/// Does what the words say: makes the C decoder of the pattern files that they name, and writes it to `out` or to a file
+/// of the folder. What went wrong is said on `err`, whose own failures change no status.
+/// `words` doesn't hold the program's name. All memory is taken before the first byte is written and before a file is
+/// made.
 pub fn tool<D: Folder, O: Sink, E: Sink>(
     alloc: Global,
     words: &[String],
@@ -22,9 +28,8 @@ pub fn tool<D: Folder, O: Sink, E: Sink>(
     out: &mut O,
     err: &mut E,
 ) -> Status
-    ensures number { result.number ≡ exit_status result.outcome }
-    ensures right { IsRight (record {
-      words = texts words.now;
+    ensures number { result.number ≡ exit_status (tests_errors (command_of (texts words.now))) result.outcome }
+    ensures right { IsRight (texts words.now) (command_of (texts words.now)) (record {
       outcome = result.outcome;
       folder = D.seen folder.old;
       folder_after = D.seen folder.new;
@@ -34,46 +39,76 @@ pub fn tool<D: Folder, O: Sink, E: Sink>(
       err_after = E.seen err.new;
     }) }
     ensures untouched { result.outcome ≢ Outcome.Done → result.outcome ≢ Outcome.WriteFault → out.new ≡ out.old }
+    ensures to_file { IsSome (output_named (command_of (texts words.now))) → out.new ≡ out.old }
     ensures unread { result.outcome ≡ Outcome.Usage → folder.new ≡ folder.old }
     ensures quiet { result.outcome ≡ Outcome.Done → err.new ≡ err.old }
 {
-    match generate(alloc, words, folder) {
-        Ok(text) => write_text(text.as_slice(), out, err),
-        Err(Stop::Usage) => say(messages::USAGE, Outcome::Usage, err),
-        Err(Stop::ReadFault(message)) => say(message.as_slice(), Outcome::ReadFault, err),
-        Err(Stop::Refused(message)) => say(message.as_slice(), Outcome::Refused, err),
-        Err(Stop::NoMemory) => no_memory(err),
+    match read_words(alloc, words) {
+        Ok(
+            Command::Gen {
+                options,
+                output,
+                files,
+                test,
+            },
+        ) => {
+            let request = Request {
+                options: &options,
+                output: &output,
+                files: files.items(),
+            };
+            Status::of(run_gen(alloc, request, folder, out, err), test)
+        }
+        Err(WordFault::Bad(usage, place)) => {
+            Status::of(refuse_words(alloc, words, usage, place, err), false)
+        }
+        Err(WordFault::NoMemory) => no_memory(err),
     }
 }
 
 /// Says that memory ran out.
 pub fn no_memory<E: Sink>(err: &mut E) -> Status
     ensures outcome { result.outcome ≡ Outcome.NoMemory }
-    ensures number { result.number ≡ exit_status Outcome.NoMemory }
-    ensures said { Reports (E.seen err.old) (E.seen err.new) (codes "error: no memory\n") }
+    ensures number { result.number ≡ exit_status false Outcome.NoMemory }
+    ensures said { Reports (E.seen err.old) (E.seen err.new) said.no_memory }
 {
-    say(messages::NO_MEMORY, Outcome::NoMemory, err)
+    report(err, messages::NO_MEMORY);
+    Status::of(Outcome::NoMemory, false)
 }
 
-// Writes the text, and says where that fails.
-fn write_text<O: Sink, E: Sink>(text: &[u8], out: &mut O, err: &mut E) -> Status
-    ensures number { result.number ≡ exit_status result.outcome }
-    ensures writes { WritesText text.now result.outcome (O.seen out.old) (O.seen out.new)
-        (E.seen err.old) (E.seen err.new) }
-    ensures quiet { result.outcome ≡ Outcome.Done → err.new ≡ err.old }
+// Says what is wrong with the words.
+fn refuse_words<E: Sink>(
+    alloc: Global,
+    words: &[String],
+    usage: Usage,
+    place: Option<usize>,
+    err: &mut E,
+) -> Outcome
+    requires { IfSome place (λ place. place < length words.now) }
+    ensures either { (result ≡ Outcome.Usage) ⊎ (result ≡ Outcome.NoMemory) }
+    ensures usage { result ≡ Outcome.Usage
+        → Reports (E.seen err.old) (E.seen err.new) (said.usage_message (texts words.now) (usage, place)) }
+    ensures no_memory { result ≡ Outcome.NoMemory → Reports (E.seen err.old) (E.seen err.new) said.no_memory }
 {
-    match write_all(out, text) {
-        Ok(()) => Status::of(Outcome::Done),
-        Err(_) => say(messages::CANNOT_WRITE, Outcome::WriteFault, err),
+    match messages::usage_message(alloc, usage, word_at(words, place)) {
+        Ok(message) => {
+            report(err, message.as_slice());
+            Outcome::Usage
+        }
+        Err(_) => {
+            report(err, messages::NO_MEMORY);
+            Outcome::NoMemory
+        }
     }
 }
 
-// Says a text on `err`, whether it takes it or not.
-fn say<E: Sink>(text: &[u8], outcome: Outcome, err: &mut E) -> Status
-    ensures outcome { result.outcome ≡ outcome }
-    ensures number { result.number ≡ exit_status outcome }
-    ensures said { Reports (E.seen err.old) (E.seen err.new) text.now }
+// The word at a place, if there is one.
+fn word_at<'a>(words: &'a [String], place: Option<usize>) -> Option<&'a str>
+    requires { IfSome place (λ place. place < length words.now) }
+    ensures { value_seen result ≡ option_map (λ place. get_or (texts words.now) place []) place }
 {
-    report(err, text);
-    Status::of(outcome)
+    match place {
+        Some(place) => Some(words[place].as_str()),
+        None => None,
+    }
 }

@@ -1,14 +1,12 @@
 //! What is refused, and what is said of it: the rules of docs/COMMANDS.md.
-ghost use Rattle.std.specs.Prelude.{◌≤◌, length};
-
 use crate::messages::{Inputs, entry_message, overlap_message};
 use crate::status::{Outcome, Status};
-use crate::tests::runs::{EMPTY_TEXT, check_text, run_gen};
+use crate::tests::runs::{EMPTY_TEXT, NOTHING_FAILS, check_text, run, run_gen};
 use dt_fields::Rule;
-use dt_forms::{Options, Source, read_model};
-use dt_lines::{LARGEST_FILE, Position};
-use dt_tree::{PositionList, Tree, TreeFault};
+use dt_forms::Source;
+use dt_lines::Position;
 use dt_values::Width;
+use dt_words::Text;
 use std::alloc::{AllocError, Global};
 use std::test::Fail;
 
@@ -127,8 +125,9 @@ fn groups_are_named_by_their_opening_tokens(rt: HostRuntime) -> Result<(), Fail>
     let alloc = rt.alloc();
     let text = b"{\n}\n[\n]\n".as_slice();
     let sources = [Source::read(alloc, 0, Vec::from_slice(alloc, text)?)?];
-    let names = ["t"];
+    let names = [Text::of(String::from_str(alloc, "t")?)];
     let inputs = Inputs {
+        width: Width::W32,
         names: &names,
         sources: &sources,
     };
@@ -144,43 +143,34 @@ fn groups_are_named_by_their_opening_tokens(rt: HostRuntime) -> Result<(), Fail>
     Ok(())
 }
 
-// Where the patterns stand that a refusal of a file of this width shows; None where its patterns are parted.
-fn knot_in(alloc: Global, width: Width, text: &[u8]) -> Result<Option<PositionList>, Fail>
-    requires { length text.now ≤ LARGEST_FILE }
-{
-    let files = [Source::read(alloc, 0, Vec::from_slice(alloc, text)?)?];
-    let options = Options {
-        width,
-        ..Options::default()
-    };
-    let Ok(model) = read_model(alloc, &options, files.as_slice()) else {
-        return Err("no model".into());
-    };
-    match Tree::build(alloc, &model) {
-        Ok(_) => Ok(None),
-        Err(TreeFault::Knot(positions)) => Ok(Some(positions)),
-        Err(_) => Err("another fault".into()),
-    }
-}
-
 #[test]
 fn words_of_16_bits_are_told_apart_too(rt: HostRuntime) -> Result<(), Fail> {
-    let three = b"a 0-1 -------------\nb 11- -------------\nc -00 -------------\n".as_slice();
-    let positions = knot_in(rt.alloc(), Width::W16, three)?.ok_or("a knot")?;
-    let expected = [1, 2, 3].map(|line| Position { file: 0, line });
-    assert_eq!(rt; positions.items(), expected.as_slice());
-    let two = b"a 0-1 -------------\nb 11- -------------\n".as_slice();
-    assert!(rt; knot_in(rt.alloc(), Width::W16, two)?.is_none());
-    let groups = b"{
+    let table = [
+        (
+            "a 0-1 -------------\nb 11- -------------\nc -00 -------------\n",
+            1,
+            "t:1: error: H2 overlapping: a\nt:2: note: H2 overlapping: b\nt:3: note: H2 overlapping: c\n",
+        ),
+        ("a 0-1 -------------\nb 11- -------------\n", 0, ""),
+        (
+            "{
   [
     x 00000000 00000000
     y 00000000 00000001
   ]
   z 00000000 --------
 }
-"
-        .as_slice();
-    assert!(rt; knot_in(rt.alloc(), Width::W16, groups)?.is_none());
+",
+            0,
+            "",
+        ),
+    ];
+    for (text, number, err) in table {
+        let words = ["gen", "-w", "16", "t"];
+        let ran = run(rt.alloc(), &words, text.as_bytes(), 16, NOTHING_FAILS)?;
+        assert_eq!(rt; ran.status.number, number);
+        assert_eq!(rt; ran.err.bytes(), err.as_bytes());
+    }
     Ok(())
 }
 
@@ -234,7 +224,7 @@ fn a_file_over_its_limit_is_refused(rt: HostRuntime) -> Result<(), Fail> {
     for (len, outcome, said, written) in table {
         let text = vec![in rt.alloc(); b' '; len]?;
         let ran = run_gen(rt.alloc(), text.as_slice(), 4096)?;
-        assert_eq!(rt; ran.status, Status::of(outcome));
+        assert_eq!(rt; ran.status, Status::of(outcome, false));
         assert_eq!(rt; ran.err.bytes(), said.as_bytes());
         assert_eq!(rt; ran.out.bytes(), written.as_bytes());
     }
@@ -248,7 +238,7 @@ fn a_pattern_too_many_is_refused_before_overlaps(rt: HostRuntime) -> Result<(), 
         text.push_str("p --------------------------------\n")?;
     }
     let ran = run_gen(rt.alloc(), text.as_bytes(), 4096)?;
-    assert_eq!(rt; ran.status, Status::of(Outcome::Refused));
+    assert_eq!(rt; ran.status, Status::of(Outcome::Refused, false));
     assert_eq!(rt;
         ran.err.bytes(),
         b"t:8193: error: L9 too many patterns: p\n".as_slice()

@@ -44,19 +44,22 @@ static bool decode(DisasContext *ctx, uint32_t insn)
 }
 ";
 
-/// What fails in a run, by the numbers of the calls, from 1.
+/// What fails in a run, by the numbers of the calls, from 1: those of the folder, those of `out` and those of `err`.
 #[derive(Clone, Copy)]
 pub struct Failing<'a> {
-    pub reads: &'a [u64],
+    pub calls: &'a [u64],
     pub writes: &'a [u64],
     pub reports: &'a [u64],
 }
 
 pub const NOTHING_FAILS: Failing<'static> = Failing {
-    reads: &[],
+    calls: &[],
     writes: &[],
     reports: &[],
 };
+
+/// How many bytes the file `o` has room for.
+pub const ROOM: usize = 2000;
 
 /// What a run left.
 #[derive(Drop)]
@@ -75,19 +78,28 @@ fn words_of(alloc: Global, words: &[&str]) -> Result<Vec<String>, AllocError> {
     Ok(all)
 }
 
-/// A run over a folder that holds the one file `t`, with sinks that take `step` bytes a write.
-#[tactic(auto, using(dt_io::proofs::Distinct::distinct_one))]
-pub fn run(
+/// A run over a folder that holds the files `t` and `s` and has room for a file `o`, with sinks and a folder that take
+/// `step` bytes a write.
+#[tactic(auto, using(dt_io::proofs::Distinct::distinct_three))]
+pub fn run_over(
     alloc: Global,
     words: &[&str],
-    text: &[u8],
+    texts: [&[u8]; 2],
     step: usize,
     failing: Failing,
 ) -> Result<Ran, AllocError>
     requires { 1 ≤ step }
 {
-    let files = [(String::from_str(alloc, "t")?, Vec::from_slice(alloc, text)?)];
-    let mut folder = MemoryFolder::new(alloc, &files, 4096, failing.reads)?;
+    let [text, other] = texts;
+    let files = [
+        (String::from_str(alloc, "t")?, Vec::from_slice(alloc, text)?),
+        (
+            String::from_str(alloc, "s")?,
+            Vec::from_slice(alloc, other)?,
+        ),
+    ];
+    let outputs = [String::from_str(alloc, "o")?];
+    let mut folder = MemoryFolder::new(alloc, &files, &outputs, ROOM, step, failing.calls)?;
     let mut out = MemorySink::new(alloc, 8_000_000, step, failing.writes)?;
     let mut err = MemorySink::new(alloc, 4096, step, failing.reports)?;
     let words = words_of(alloc, words)?;
@@ -98,6 +110,19 @@ pub fn run(
         out,
         err,
     })
+}
+
+/// A run over a folder whose file `t` has this text.
+pub fn run(
+    alloc: Global,
+    words: &[&str],
+    text: &[u8],
+    step: usize,
+    failing: Failing,
+) -> Result<Ran, AllocError>
+    requires { 1 ≤ step }
+{
+    run_over(alloc, words, [text, NOP_LINE.as_bytes()], step, failing)
 }
 
 /// A run of `gen t` in which nothing fails.

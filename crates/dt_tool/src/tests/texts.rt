@@ -36,7 +36,7 @@ fn check_statements(
     statements: &str,
 ) -> Result<(), Fail> {
     let ran = run_gen(rt.alloc(), text.as_bytes(), 16)?;
-    assert_eq!(rt; ran.status, Status::of(Outcome::Done));
+    assert_eq!(rt; ran.status, Status::of(Outcome::Done, false));
     let out = std::str::from_utf8(ran.out.bytes())?;
     let (_, found) = out.split_once("    } u;\n\n").ok_or("a union")?;
     assert_eq!(rt; found, statements);
@@ -127,7 +127,7 @@ static bool trans_a(DisasContext *ctx, arg_a *a);
 
 static void";
     let ran = run_gen(rt.alloc(), text, 16)?;
-    assert_eq!(rt; ran.status, Status::of(Outcome::Done));
+    assert_eq!(rt; ran.status, Status::of(Outcome::Done, false));
     let out = std::str::from_utf8(ran.out.bytes())?;
     assert!(rt; out.contains(prototypes));
     assert_eq!(rt; out.matches("static bool trans_b").count(), 1);
@@ -205,7 +205,7 @@ fn many_patterns_are_read_and_written_at_once(rt: HostRuntime) -> Result<(), Fai
         write!(text, "p{word} {word:032b}\n")?;
     }
     let ran = run_gen(rt.alloc(), text.as_bytes(), 4096)?;
-    assert_eq!(rt; ran.status, Status::of(Outcome::Done));
+    assert_eq!(rt; ran.status, Status::of(Outcome::Done, false));
     let last = b"    if ((insn & 0xffffffff) == 0x00001fff) {
         /* 1:8192 */
         decode_extract_decode_Fmt_0(ctx, &u.f_decode0, insn);
