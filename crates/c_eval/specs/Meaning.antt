@@ -1,5 +1,6 @@
 -- What an expression of the C subset is (docs/C_SUBSET.md, "The meaning of a run"; QEMU, include/qemu/bitops.h).
-use Rattle.std.specs.Prelude.{ℕ, ◌+◌, Bool, ◌&&◌, nat_le, ℤ, pos, List, Option, Some, None, option_map, option_and_then, if◌then◌else◌}
+use Rattle.std.specs.Prelude.{ℕ, ◌+◌, Bool, ◌&&◌, nat_le, ℤ, pos, List, Option, Some, None, option_map, option_and_then}
+use Rattle.std.specs.Prelude.{if◌then◌else◌}
 use Rattle.dt_values.specs.BitFields.{bits_at, signed, deposited, residue}
 use Rattle.dt_values.specs.declared.width.Width.{Width}
 use Rattle.dt_values.specs.declared.width.Width.TheVariants.{W16, W32, W64}

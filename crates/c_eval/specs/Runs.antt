@@ -113,14 +113,21 @@ run_block false block r = going r
 -- a set becomes live, or stays so, with what its arguments hold; None is stuck
 abbrev pub make_live : {S : Type 0} → Name → Option Held → Standing S → Turn S
 make_live set (Some held) r =
-    going (record { live = Some (record { set = set; held = held }); calls = r.calls; tests = r.tests; state = r.state })
+    going (record {
+      live = Some (record { set = set; held = held });
+      calls = r.calls;
+      tests = r.tests;
+      state = r.state;
+    })
 make_live set None r = ended stuck r
 
 -- what the arguments of a set hold after an extraction, where both are declared
-abbrev pub held_after_extraction : {S : Type 0} → Program → List SetDef → Host S → ℕ → Name → Name → Standing S → Option Held
+abbrev pub held_after_extraction : {S : Type 0} → Program → List SetDef → Host S → ℕ → Name → Name → Standing S
+    → Option Held
 held_after_extraction program outside host word format set r =
     option_and_then (λ members. option_and_then
-    (λ assigns. all_assigned (helper_bits program.width) word (host.answer r.state) members assigns (held_of r.live set))
+    (λ assigns. all_assigned (helper_bits program.width) word (host.answer r.state) members assigns
+    (held_of r.live set))
     (assigns_in program.extracts format set)) (declared_members program outside set)
 
 abbrev pub place_in_decoder : {S : Type 0} → Program → Host S → ℕ → Standing S → Place
@@ -128,7 +135,8 @@ place_in_decoder program host word r =
     record { bits = helper_bits program.width; word = word; held = in_decoder r.live; answer = host.answer r.state }
 
 -- and after an assignment, where the set is declared
-abbrev pub held_after_assignment : {S : Type 0} → Program → List SetDef → Host S → ℕ → Name → Name → Term → Standing S → Option Held
+abbrev pub held_after_assignment : {S : Type 0} → Program → List SetDef → Host S → ℕ → Name → Name → Term → Standing S
+    → Option Held
 held_after_assignment program outside host word set name e r =
     option_and_then (λ members. assigned (place_in_decoder program host word r) (type_in members name) name e
     (held_of r.live set)) (declared_members program outside set)

@@ -21,9 +21,11 @@ use Rattle.dt_scope.specs.declared.value.FieldValue.TheVariants.{Field, Constant
 use Rattle.c_subset.specs.Exprs.{Term, deposit, cast}
 use Rattle.dt_match.specs.Arguments.{value_of}
 use Rattle.dt_match.specs.FieldValues.{has_sign, segment_bits, joined, raw_value, answered, field_value}
-use Rattle.c_eval.specs.Meaning.{Place, helper_bits, lies_in, guarded, extracted, extract_value, deposit_value, value_at}
+use Rattle.c_eval.specs.Meaning.{Place, helper_bits, lies_in, guarded, extracted, extract_value, deposit_value}
+use Rattle.c_eval.specs.Meaning.{value_at}
 use Rattle.c_fields.specs.Values.{KeepsValueRules, ShowsValue}
-use Rattle.c_fields.specs.Written.{segment_term, folded, joined_term, applied_term, field_term, value_term, IsShown, Shows}
+use Rattle.c_fields.specs.Written.{segment_term, folded, joined_term, applied_term, field_term, value_term, IsShown}
+use Rattle.c_fields.specs.Written.{Shows}
 use Rattle.dt_values.proofs.Parts.{bits_below, residue_below, place_below}
 use Rattle.c_fields.proofs.Signs.{spread, residue_of_signed, signed_of_spread, spread_below, spread_low, spread_joined}
 use Rattle.dt_match.proofs.LowBits.{low_of_residue}
@@ -173,7 +175,8 @@ one_more set at held s t ts small r f =
     word_of (has_sign s) n l b b_below (omega arith) in
     let low : residue n f.value % 2 ^ p ≡ j =
     ap (λ x. x % 2 ^ p) v_is ∙ word_low (has_sign t) n p j j_below (omega arith) in
-    two_parts at (folded at.bits set t ts) (segment_term set s) p (n - p) _ _ f.is (first_is set at held s (t ∷ ts) small r)
+    two_parts at (folded at.bits set t ts) (segment_term set s) p (n - p) _ _ f.is
+    (first_is set at held s (t ∷ ts) small r)
     ∙ inside_word n p (n - p) _ (omega arith) (omega arith)
     ∙ ap (λ x. Some (pos (deposited (residue n f.value) p (n - p) x))) part_is
     ∙ ap (λ x. Some (pos x))
@@ -269,7 +272,8 @@ field_law w set field held at sound e small shown =
     ap (λ n. value_at at (field_term n set field)) (sym e)
     ∙ field_is set at held field (omega arith) (record {
       within =
-          All-weaker (λ s. segment_end s ≤ width_bits w) (λ s. segment_end s ≤ at.bits) (wider (width_bits w) at.bits le)
+          All-weaker (λ s. segment_end s ≤ width_bits w) (λ s. segment_end s ≤ at.bits)
+          (wider (width_bits w) at.bits le)
           field.segments sound.within;
       lengths = sound.lengths;
       shown = shown;

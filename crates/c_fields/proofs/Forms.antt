@@ -107,7 +107,8 @@ applied_keeps (Some name) (s ∷ ss) e named no_function k =
     record { form = (no_function, k.form); names = (c_name_is_name name named, k.names) }
 
 -- ---- at a width
-pub value_has_room : (w : Width) (value : FieldValue) → KeepsValueRules (width_bits w) value → HasRoom (helper_bits w) value
+pub value_has_room : (w : Width) (value : FieldValue) → KeepsValueRules (width_bits w) value
+    → HasRoom (helper_bits w) value
 value_has_room w (Field field) sound =
     let fits = fits_helpers w in
     let total = sound.total in
@@ -153,7 +154,8 @@ folded_stands : (n : ℕ) (set : Option (List ℕ)) (s : Segment) (ss : List Seg
 folded_stands n set s [] = segment_stands set s
 folded_stands n set s (t ∷ ts) = (folded_stands n set t ts, segment_stands set s)
 
-several_stands : (in_decoder sign : Bool) (e : Term) → StandsIn in_decoder e → StandsIn in_decoder (cond sign (cast e) e)
+several_stands : (in_decoder sign : Bool) (e : Term) → StandsIn in_decoder e
+    → StandsIn in_decoder (cond sign (cast e) e)
 several_stands in_decoder true e h = h
 several_stands in_decoder false e h = h
 
@@ -174,6 +176,7 @@ field_stands n set field =
     applied_stands (is_some set) field.function field.segments (joined_term n set field.segments)
     (joined_stands n set field.segments)
 
-pub value_stands : (n : ℕ) (set : Option (List ℕ)) (value : FieldValue) → StandsIn (is_some set) (value_term n set value)
+pub value_stands : (n : ℕ) (set : Option (List ℕ)) (value : FieldValue)
+    → StandsIn (is_some set) (value_term n set value)
 value_stands n set (Field field) = field_stands n set field
 value_stands n set (Constant z) = tt

@@ -1,5 +1,6 @@
 -- The line of an assignment has the tokens that spell it.
-use Rattle.std.proofs.Common.{◌≡◌, ℕ, suc, ◌<◌, ◌^◌, Bool, true, false, List, [], ◌∷◌, ◌++◌, ℤ, pos, negsuc, Option, Some, None}
+use Rattle.std.proofs.Common.{◌≡◌, ℕ, suc, ◌<◌, ◌^◌, Bool, true, false, List, [], ◌∷◌, ◌++◌, ℤ, pos, negsuc, Option}
+use Rattle.std.proofs.Common.{Some, None}
 use Rattle.std.proofs.Common.{refl, arith, lit<}
 use Rattle.std.specs.Prelude.{codes, decimal}
 use Rattle.dt_values.specs.Names.{IsName}
@@ -8,14 +9,17 @@ use Rattle.dt_values.specs.declared.width.Width.TheVariants.{W16, W32, W64}
 use Rattle.c_subset.specs.Bytes.{IsWord}
 use Rattle.c_subset.specs.Exprs.{Source, insn, argument, Term, constant, segment, deposit, cast, function, applied}
 use Rattle.c_subset.specs.ExprForms.{ArgumentNamed, SourceNamed, ConstantFits, HasNames}
-use Rattle.c_subset.specs.ExprSpelling.{helper_digits, extract_word, argument_spelled, source_spelled, constant_spelled, expr_spelled, assign_spelled}
+use Rattle.c_subset.specs.ExprSpelling.{helper_digits, extract_word, argument_spelled, source_spelled, constant_spelled}
+use Rattle.c_subset.specs.ExprSpelling.{expr_spelled, assign_spelled}
 use Rattle.c_subset.specs.Marks.{open_round, close_round, semicolon, comma, minus, equals, dot, f_}
 use Rattle.c_subset.specs.Tokens.{word, arrow, read, tokens_of}
 use Rattle.c_subset.proofs.Lexing.{Lexes, line_lexes, lexes_append, tokens_from}
 use Rattle.c_subset.proofs.Seeing.{see}
 use Rattle.c_subset.proofs.Words.{decimal_word_is, name_is_word}
-use Rattle.c_fields.specs.ExprLayout.{argument_text, source_text, constant_text, helper_text, last_text, middle_text, cast_text}
-use Rattle.c_fields.specs.ExprLayout.{function_text, applied_text, close_text, expr_text, indent_text, equals_text, line_end, assign_line}
+use Rattle.c_fields.specs.ExprLayout.{argument_text, source_text, constant_text, helper_text, last_text, middle_text}
+use Rattle.c_fields.specs.ExprLayout.{cast_text}
+use Rattle.c_fields.specs.ExprLayout.{function_text, applied_text, close_text, expr_text, indent_text, equals_text}
+use Rattle.c_fields.specs.ExprLayout.{line_end, assign_line}
 use Rattle.c_fields.proofs.WordEnds.{Opens, closed, pieces_open, open_after, EndWords, pieces_end, end_by_first, close}
 
 -- ---- words that a width or a sign decides

@@ -1,5 +1,6 @@
 -- Signed numbers of some bits, as words of more bits.
-use Rattle.std.proofs.Common.{◌≡◌, ℕ, suc, ◌+◌, ◌-◌, ◌*◌, ◌%◌, ◌^◌, ◌<◌, ◌≤◌, Bool, true, false, cond, ℤ, pos, negsuc, ◌-ℤ◌}
+use Rattle.std.proofs.Common.{◌≡◌, ℕ, suc, ◌+◌, ◌-◌, ◌*◌, ◌%◌, ◌^◌, ◌<◌, ◌≤◌, Bool, true, false, cond, ℤ, pos, negsuc}
+use Rattle.std.proofs.Common.{◌-ℤ◌}
 use Rattle.std.proofs.Common.{refl, sym, ap, ◌∙◌, arith, pow_mono, mod-eq_of_lt, mul_assoc}
 use Rattle.std.proofs.lemmas.Int.{ints}
 use Rattle.std.proofs.lemmas.Bool.{le-leb, leb-true, leb-false, lt-leb}
@@ -116,7 +117,8 @@ spread_if_cut true n m l b h k le =
     let low : 2 ^ m - 2 ^ l + b < 2 ^ m = omega arith in
     let f : 2 ^ n - 2 ^ l + b ≡ (2 ^ (n - m) - 1) * 2 ^ m + (2 ^ m - 2 ^ l + b) = omega arith in
     ap (λ x. x % 2 ^ m) f ∙ mod_low (2 ^ (n - m) - 1) m (2 ^ m - 2 ^ l + b) low
-spread_if_cut false n m l b h k le = let a : 2 ^ l ≤ 2 ^ m = pow_mono k in let low : b < 2 ^ m = omega arith in mod-eq_of_lt low
+spread_if_cut false n m l b h k le = let a : 2 ^ l ≤ 2 ^ m = pow_mono k in let low : b < 2 ^ m =
+    omega arith in mod-eq_of_lt low
 
 -- and with j below it, it is the joined number spread
 spread_if_above : (t : Bool) (n l p b j : ℕ) → l + p ≤ n

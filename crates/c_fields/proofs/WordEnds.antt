@@ -1,7 +1,9 @@
 -- Bytes whose last token may be a word that goes on, and what ends it.
-use Rattle.std.proofs.Common.{◌≡◌, ℕ, Bool, true, false, List, [], ◌∷◌, ◌++◌, Some, option_map, refl, sym, ap, ◌∙◌, append_assoc}
+use Rattle.std.proofs.Common.{◌≡◌, ℕ, Bool, true, false, List, [], ◌∷◌, ◌++◌, Some, option_map, refl, sym, ap, ◌∙◌}
+use Rattle.std.proofs.Common.{append_assoc}
 use Rattle.dt_text.specs.Pieces.{Piece, text, pieces_text}
-use Rattle.c_subset.specs.Tokens.{Token, word, Kind, letter, space, single, star, slash, equals, dash, above, other, kind}
+use Rattle.c_subset.specs.Tokens.{Token, word, Kind, letter, space, single, star, slash, equals, dash, above, other}
+use Rattle.c_subset.specs.Tokens.{kind}
 use Rattle.c_subset.specs.Tokens.{between, in_word, put, begin, in_word_step, read, and_then}
 use Rattle.c_subset.proofs.Lexing.{Lexes, lexes_append}
 use Rattle.c_subset.proofs.Seeing.{AllNamed, see, as_seen, read-append, put-and_then}
@@ -9,7 +11,8 @@ use Rattle.c_subset.proofs.Seeing.{AllNamed, see, as_seen, read-append, put-and_
 -- the bytes have these tokens; the last of them has ended, or is a word that goes on
 pub data Opens (bytes : List ℕ) (ts : List Token) : Type 0 where
   closed : Lexes bytes ts → Opens bytes ts
-  in_last : (us : List Token) (w : List ℕ) → read bytes between ≡ Some (us, in_word w) → us ++ word w ∷ [] ≡ ts → Opens bytes ts
+  in_last : (us : List Token) (w : List ℕ) → read bytes between ≡ Some (us, in_word w) → us ++ word w ∷ [] ≡ ts
+      → Opens bytes ts
 
 pub pieces_open : (ps : List Piece) (us : List Token) (w : List ℕ) → AllNamed ps → see ps between ≡ Some (us, in_word w)
     → Opens (pieces_text ps) (us ++ word w ∷ [])
@@ -30,7 +33,8 @@ abbrev pub separates : Kind → Bool
 separates letter = false
 separates k = true
 
-step_after_word : (k : Kind) (w : List ℕ) (b : ℕ) → separates k ≡ true → in_word_step w k b ≡ option_map (put (word w ∷ [])) (begin k b)
+step_after_word : (k : Kind) (w : List ℕ) (b : ℕ) → separates k ≡ true
+    → in_word_step w k b ≡ option_map (put (word w ∷ [])) (begin k b)
 step_after_word letter w b h = cc
 step_after_word space w b h = refl
 step_after_word single w b h = refl

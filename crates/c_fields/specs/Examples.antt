@@ -71,5 +71,6 @@ pub record ValueExamples : Type 0 where
   pub whole_run : run_on 0xffffffff whole_word ≡ Some (pos 0xffffffff)
 
 pub record LineExamples : Type 0 where
-  pub branch : line_of branch_immediate ≡ codes "    a->imm = (int32_t)deposit32(deposit32(deposit32(extract32(insn, 8, 4), 4, 28, extract32(insn, 25, 6)), 10, 22, extract32(insn, 7, 1)), 11, 21, sextract32(insn, 31, 1));\n"
+  pub branch : line_of branch_immediate ≡ codes
+      "    a->imm = (int32_t)deposit32(deposit32(deposit32(extract32(insn, 8, 4), 4, 28, extract32(insn, 25, 6)), 10, 22, extract32(insn, 7, 1)), 11, 21, sextract32(insn, 31, 1));\n"
   pub whole : line_of whole_word ≡ codes "    a->imm = extract32(insn, 0, 32);\n"

@@ -1,5 +1,6 @@
 -- Words and tokens that are told apart.
-use Rattle.std.proofs.Common.{◌≡◌, ℕ, ◌<◌, List, [], ◌∷◌, ◌++◌, length, Bool, true, false, ◌==◌, ◌&&◌, refl, sym, ap, ◌∙◌, arith, length-append}
+use Rattle.std.proofs.Common.{◌≡◌, ℕ, ◌<◌, List, [], ◌∷◌, ◌++◌, length, Bool, true, false, ◌==◌, ◌&&◌, refl, sym, ap}
+use Rattle.std.proofs.Common.{◌∙◌, arith, length-append}
 use Rattle.std.specs.Prelude.{codes}
 use Rattle.std.proofs.lemmas.Bool.Decides.{nat_tests}
 use Rattle.c_subset.specs.Tokens.{Token, word, mark}
@@ -24,11 +25,18 @@ same_bytes (v ∷ vs) (w ∷ ws) = v == w && same_bytes vs ws
 
 same_bytes_self : (v : List ℕ) → same_bytes v v ≡ true
 same_bytes_self [] = refl
-same_bytes_self (x ∷ v) = let h : same_bytes v v ≡ true = same_bytes_self v in let k : (x == x) ≡ true = grind (arith, nat_tests) in rw (k, h) refl
+same_bytes_self (x ∷ v) = let h : same_bytes v v ≡ true = same_bytes_self v in let k : (x == x) ≡ true =
+    grind (arith, nat_tests) in rw (k, h) refl
 
 pub differ : (v w : List ℕ) → same_bytes v w ≡ false → v ≡ w → ⊥
 differ v w h e = let f : true ≡ false = sym (same_bytes_self v) ∙ ap (same_bytes v) e ∙ h in cc
 
 -- an extraction's function is longer than each other word that stands there
 pub long : (d x w : Name) → length w < 9 → d ++ codes "_extract_" ++ x ≡ w → ⊥
-long d x w h e = omega (arith, length-append (d ++ codes "_extract_") x, length-append d (codes "_extract_"), ap length e)
+long d x w h e = omega (
+  arith,
+  length-append (d ++ codes "_extract_") x,
+  length-append d
+      (codes "_extract_"),
+  ap length e,
+)

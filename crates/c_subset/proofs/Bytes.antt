@@ -1,11 +1,13 @@
 -- What a byte's kind says of the byte.
-use Rattle.std.proofs.Common.{◌≡◌, ℕ, Bool, true, false, ◌||◌, ◌&&◌, ◌==◌, List, [], ◌∷◌, ◌++◌, Some, refl, arith, subst, ◌⊎◌, inl, inr}
+use Rattle.std.proofs.Common.{◌≡◌, ℕ, Bool, true, false, ◌||◌, ◌&&◌, ◌==◌, List, [], ◌∷◌, ◌++◌, Some, refl, arith}
+use Rattle.std.proofs.Common.{subst, ◌⊎◌, inl, inr}
 use Rattle.std.specs.Prelude.{IsTrue, if◌then◌else◌}
 use Rattle.std.proofs.lemmas.Bool.Decides.{nat_tests}
 use Rattle.dt_values.specs.Names.{is_name_byte}
 use Rattle.std.specs.List.{list_all}
 use Rattle.c_subset.specs.Bytes.{Letters, is_among, white_bytes, is_white, mark_bytes, is_mark}
-use Rattle.c_subset.specs.Tokens.{mark, Kind, letter, space, star, slash, equals, dash, above, single, other, kind, between, begin}
+use Rattle.c_subset.specs.Tokens.{mark, Kind, letter, space, star, slash, equals, dash, above, single, other, kind}
+use Rattle.c_subset.specs.Tokens.{between, begin}
 
 abbrev pub Says : Kind → ℕ → Type 0
 Says letter b = IsTrue (is_name_byte b)
@@ -70,19 +72,22 @@ either_true : (a b : Bool) → IsTrue (a || b) → IsTrue a ⊎ IsTrue b
 either_true true b h = inl refl
 either_true false b h = inr h
 
-among_by : (P : ℕ → Type 0) (b byte : ℕ) (more : Bool) → P b → (IsTrue more → P byte) → IsTrue (b == byte) ⊎ IsTrue more → P byte
+among_by : (P : ℕ → Type 0) (b byte : ℕ) (more : Bool) → P b → (IsTrue more → P byte)
+    → IsTrue (b == byte) ⊎ IsTrue more → P byte
 among_by P b byte more h rest (inl e) = subst P (equal_by b byte e) h
 among_by P b byte more h rest (inr e) = rest e
 
 among : (P : ℕ → Type 0) (bs : List ℕ) (byte : ℕ) → Each P bs → IsTrue (is_among bs byte) → P byte
 among P [] byte h k = absurd (cc)
-among P (b ∷ bs) byte h k = among_by P b byte (is_among bs byte) h.0 (λ e. among P bs byte h.1 e) (either_true (b == byte) (is_among bs byte) k)
+among P (b ∷ bs) byte h k = among_by P b byte (is_among bs byte) h.0 (λ e. among P bs byte h.1 e)
+    (either_true (b == byte) (is_among bs byte) k)
 
 pub white_kind : (b : ℕ) → IsTrue (is_white b) → kind b ≡ space
 white_kind b h = among (λ c. kind c ≡ space) white_bytes b (refl, (refl, (refl, (refl, (refl, (refl, tt)))))) h
 
 pub mark_begins : (b : ℕ) → IsTrue (is_mark b) → begin (kind b) b ≡ Some (mark b ∷ [], between)
-mark_begins b h = among (λ c. begin (kind c) c ≡ Some (mark c ∷ [], between)) mark_bytes b (refl, (refl, (refl, (refl, (refl, (refl, (refl, (refl, (refl, (refl, tt)))))))))) h
+mark_begins b h = among (λ c. begin (kind c) c ≡ Some (mark c ∷ [], between)) mark_bytes b
+    (refl, (refl, (refl, (refl, (refl, (refl, (refl, (refl, (refl, (refl, tt)))))))))) h
 
 pub letter_or_not : (k : Kind) → (k ≡ letter) ⊎ (k ≡ letter → ⊥)
 letter_or_not letter = inl refl

@@ -1,9 +1,13 @@
 -- Where a token ends, and what is read behind it.
 use Rattle.std.proofs.Common.{◌≡◌, ℕ, List, [], ◌∷◌, None, option_map, refl, ap, ◌∙◌}
-use Rattle.c_subset.specs.Tokens.{word, mark, Kind, letter, space, star, slash, equals, dash, above, single, other, kind, between, in_word, after_equals, after_dash, in_comment, put, begin, in_word_step, after_equals_step, after_dash_step, after_slash_step, in_comment_step, after_star_step, and_then, read}
+use Rattle.c_subset.specs.Tokens.{word, mark, Kind, letter, space, star, slash, equals, dash, above, single, other}
+use Rattle.c_subset.specs.Tokens.{kind, between, in_word, after_equals, after_dash, in_comment, put, begin}
+use Rattle.c_subset.specs.Tokens.{in_word_step, after_equals_step, after_dash_step, after_slash_step, in_comment_step}
+use Rattle.c_subset.specs.Tokens.{after_star_step, and_then, read}
 use Rattle.c_subset.proofs.Seeing.{put-and_then}
 
-pub word_step : (k : Kind) (w : List ℕ) (b : ℕ) → (k ≡ letter → ⊥) → in_word_step w k b ≡ option_map (put (word w ∷ [])) (begin k b)
+pub word_step : (k : Kind) (w : List ℕ) (b : ℕ) → (k ≡ letter → ⊥)
+    → in_word_step w k b ≡ option_map (put (word w ∷ [])) (begin k b)
 word_step letter w b h = absurd (h refl)
 word_step space w b h = refl
 word_step star w b h = refl
@@ -14,7 +18,8 @@ word_step above w b h = refl
 word_step single w b h = refl
 word_step other w b h = refl
 
-pub equals_step : (k : Kind) (b : ℕ) → (k ≡ equals → ⊥) → after_equals_step k b ≡ option_map (put (mark 61 ∷ [])) (begin k b)
+pub equals_step : (k : Kind) (b : ℕ) → (k ≡ equals → ⊥)
+    → after_equals_step k b ≡ option_map (put (mark 61 ∷ [])) (begin k b)
 equals_step letter b h = refl
 equals_step space b h = refl
 equals_step star b h = refl
@@ -69,14 +74,20 @@ star_step above h g = refl
 star_step single h g = refl
 star_step other h g = refl
 
-pub read_ends_word : (b : ℕ) (bs w : List ℕ) → (kind b ≡ letter → ⊥) → read (b ∷ bs) (in_word w) ≡ option_map (put (word w ∷ [])) (read (b ∷ bs) between)
+pub read_ends_word : (b : ℕ) (bs w : List ℕ) → (kind b ≡ letter → ⊥)
+    → read (b ∷ bs) (in_word w) ≡ option_map (put (word w ∷ [])) (read (b ∷ bs) between)
 unfolding read
-read_ends_word b bs w h = ap (and_then (read bs)) (word_step (kind b) w b h) ∙ put-and_then (word w ∷ []) (read bs) (begin (kind b) b)
+read_ends_word b bs w h = ap (and_then (read bs)) (word_step (kind b) w b h)
+    ∙ put-and_then (word w ∷ []) (read bs) (begin (kind b) b)
 
-pub read_ends_equals : (b : ℕ) (bs : List ℕ) → (kind b ≡ equals → ⊥) → read (b ∷ bs) after_equals ≡ option_map (put (mark 61 ∷ [])) (read (b ∷ bs) between)
+pub read_ends_equals : (b : ℕ) (bs : List ℕ) → (kind b ≡ equals → ⊥)
+    → read (b ∷ bs) after_equals ≡ option_map (put (mark 61 ∷ [])) (read (b ∷ bs) between)
 unfolding read
-read_ends_equals b bs h = ap (and_then (read bs)) (equals_step (kind b) b h) ∙ put-and_then (mark 61 ∷ []) (read bs) (begin (kind b) b)
+read_ends_equals b bs h = ap (and_then (read bs)) (equals_step (kind b) b h)
+    ∙ put-and_then (mark 61 ∷ []) (read bs) (begin (kind b) b)
 
-pub read_ends_dash : (b : ℕ) (bs : List ℕ) → (kind b ≡ above → ⊥) → read (b ∷ bs) after_dash ≡ option_map (put (mark 45 ∷ [])) (read (b ∷ bs) between)
+pub read_ends_dash : (b : ℕ) (bs : List ℕ) → (kind b ≡ above → ⊥)
+    → read (b ∷ bs) after_dash ≡ option_map (put (mark 45 ∷ [])) (read (b ∷ bs) between)
 unfolding read
-read_ends_dash b bs h = ap (and_then (read bs)) (dash_step (kind b) b h) ∙ put-and_then (mark 45 ∷ []) (read bs) (begin (kind b) b)
+read_ends_dash b bs h = ap (and_then (read bs)) (dash_step (kind b) b h)
+    ∙ put-and_then (mark 45 ∷ []) (read bs) (begin (kind b) b)

@@ -1,5 +1,6 @@
 -- Which expression some tokens begin: it is read from the first few, where no bracket opens behind the expression.
-use Rattle.std.proofs.Common.{◌≡◌, ℕ, List, [], ◌∷◌, ◌++◌, Bool, true, false, cond, ◌==◌, pos, negsuc, Some, None, refl, sym, ap, ◌∙◌, arith, append_assoc}
+use Rattle.std.proofs.Common.{◌≡◌, ℕ, List, [], ◌∷◌, ◌++◌, Bool, true, false, cond, ◌==◌, pos, negsuc, Some, None, refl}
+use Rattle.std.proofs.Common.{sym, ap, ◌∙◌, arith, append_assoc}
 use Rattle.std.specs.Prelude.{codes, decimal}
 use Rattle.std.proofs.lemmas.Bool.Decides.{nat_tests}
 use Rattle.dt_values.specs.declared.width.Width.{Width}
@@ -71,7 +72,8 @@ plain_number v (double_equals ∷ a) h = refl
 plain_number v (arrow ∷ a) h = refl
 
 -- what is deposited into begins with a helper, which isn't ctx
-bits_inside : (v : List ℕ) (w : Width) (e : Term) (a : List Token) → is_bits e ≡ true → by_inside v (expr_spelled w e ++ a) ≡ by_helper v
+bits_inside : (v : List ℕ) (w : Width) (e : Term) (a : List Token) → is_bits e ≡ true
+    → by_inside v (expr_spelled w e ++ a) ≡ by_helper v
 bits_inside v w (constant z) a h = cc
 bits_inside v w (segment true from place length) a h = refl
 bits_inside v w (segment false from place length) a h = refl
@@ -85,12 +87,23 @@ source_inside v insn a = refl
 source_inside v (argument None name) a = refl
 source_inside v (argument (Some set) name) a = refl
 
-begun_is : (w : Width) (e : Term) (a : List Token) → HasForm e → opens a ≡ false → begun (expr_spelled w e ++ a) ≡ sort_of e
+begun_is : (w : Width) (e : Term) (a : List Token) → HasForm e → opens a ≡ false
+    → begun (expr_spelled w e ++ a) ≡ sort_of e
 begun_is w (constant (pos n)) a h k = plain_number (decimal n) a k
 begun_is w (constant (negsuc n)) a h k = refl
-begun_is w (segment true from p l) a h k = ap (by_inside (codes "sextract" ++ helper_digits w)) (append_assoc (source_spelled from) (comma ∷ word (decimal p) ∷ comma ∷ word (decimal l) ∷ close_round ∷ []) a) ∙ source_inside (codes "sextract" ++ helper_digits w) from _
-begun_is w (segment false from p l) a h k = ap (by_inside (codes "extract" ++ helper_digits w)) (append_assoc (source_spelled from) (comma ∷ word (decimal p) ∷ comma ∷ word (decimal l) ∷ close_round ∷ []) a) ∙ source_inside (codes "extract" ++ helper_digits w) from _
-begun_is w (deposit c p l d) a h k = ap (by_inside (codes "deposit" ++ helper_digits w)) (append_assoc (expr_spelled w c) ((comma ∷ word (decimal p) ∷ comma ∷ word (decimal l) ∷ comma ∷ []) ++ (expr_spelled w d ++ close_round ∷ [])) a) ∙ bits_inside (codes "deposit" ++ helper_digits w) w c _ h.0
+begun_is w (segment true from p l) a h k =
+    ap (by_inside (codes "sextract" ++ helper_digits w))
+    (append_assoc (source_spelled from) (comma ∷ word (decimal p) ∷ comma ∷ word (decimal l) ∷ close_round ∷ []) a)
+    ∙ source_inside (codes "sextract" ++ helper_digits w) from _
+begun_is w (segment false from p l) a h k =
+    ap (by_inside (codes "extract" ++ helper_digits w))
+    (append_assoc (source_spelled from) (comma ∷ word (decimal p) ∷ comma ∷ word (decimal l) ∷ close_round ∷ []) a)
+    ∙ source_inside (codes "extract" ++ helper_digits w) from _
+begun_is w (deposit c p l d) a h k =
+    ap (by_inside (codes "deposit" ++ helper_digits w))
+    (append_assoc (expr_spelled w c)
+    ((comma ∷ word (decimal p) ∷ comma ∷ word (decimal l) ∷ comma ∷ []) ++ (expr_spelled w d ++ close_round ∷ [])) a)
+    ∙ bits_inside (codes "deposit" ++ helper_digits w) w c _ h.0
 begun_is w (cast e) a h k = refl
 begun_is w (function name) a h k = refl
 begun_is w (applied name e) a h k = refl
@@ -110,5 +123,9 @@ apart : (m n : ℕ) → (m == n) ≡ false → m ≡ n → ⊥
 apart m n h e = let t : (m == n) ≡ true = grind (arith, nat_tests) in let f : true ≡ false = sym t ∙ h in cc
 
 -- expressions of two sorts aren't spelled alike
-pub other_sort : {A : Type 0} (w : Width) (e f : Term) (a b : List Token) → HasForm e → HasForm f → opens a ≡ false → opens b ≡ false → (rank (sort_of e) == rank (sort_of f)) ≡ false → expr_spelled w e ++ a ≡ expr_spelled w f ++ b → A
-other_sort w e f a b h k i j t is = absurd (apart (rank (sort_of e)) (rank (sort_of f)) t (ap rank (sym (begun_is w e a h i) ∙ ap begun is ∙ begun_is w f b k j)))
+pub other_sort : {A : Type 0} (w : Width) (e f : Term) (a b : List Token) → HasForm e → HasForm f → opens a ≡ false
+    → opens b ≡ false → (rank (sort_of e) == rank (sort_of f)) ≡ false → expr_spelled w e ++ a ≡ expr_spelled w f ++ b
+    → A
+other_sort w e f a b h k i j t is =
+    absurd (apart (rank (sort_of e)) (rank (sort_of f)) t
+    (ap rank (sym (begun_is w e a h i) ∙ ap begun is ∙ begun_is w f b k j)))

@@ -11,7 +11,8 @@ use Rattle.c_subset.proofs.Seeing.{AllNamed, see, as_seen, read-append}
 pub record Lexes (bytes : List ℕ) (ts : List Token) : Type 0 where
   pub tokens : read bytes between ≡ Some (ts, between)
 
-pub line_lexes : (ps : List Piece) (ts : List Token) → AllNamed ps → see ps between ≡ Some (ts, between) → Lexes (pieces_text ps) ts
+pub line_lexes : (ps : List Piece) (ts : List Token) → AllNamed ps → see ps between ≡ Some (ts, between)
+    → Lexes (pieces_text ps) ts
 line_lexes ps ts named is = record { tokens = as_seen ps between (ts, between) named is }
 
 pub lexes_none : Lexes [] []
@@ -22,7 +23,8 @@ pub lexes_append : {a b : List ℕ} {ts us : List Token} → Lexes a ts → Lexe
 lexes_append {a = a} {b = b} {ts = ts} p q =
     record { tokens = read-append a b between ∙ ap (and_then (read b)) p.tokens ∙ ap (option_map (put ts)) q.tokens }
 
-pub lexes_each : {A : Type 0} (P : A → Type 0) (f : A → List ℕ) (g : A → List Token) → ((x : A) → P x → Lexes (f x) (g x)) → (xs : List A) → All P xs → Lexes (flat_map f xs) (flat_map g xs)
+pub lexes_each : {A : Type 0} (P : A → Type 0) (f : A → List ℕ) (g : A → List Token)
+    → ((x : A) → P x → Lexes (f x) (g x)) → (xs : List A) → All P xs → Lexes (flat_map f xs) (flat_map g xs)
 lexes_each P f g one [] h = lexes_none
 lexes_each P f g one (x ∷ xs) h = lexes_append (one x (All-head P x xs h)) (lexes_each P f g one xs (All-tail P x xs h))
 

@@ -74,18 +74,23 @@ with_set : TermKeeps (low_bits_of in_decoder)
 with_set = record { form = refl; names = ((refl, refl), lit< tt, lit< tt) }
 
 -- a program that a text with these tokens spells is this one, and so this one keeps the rules
-keeps_as_spelled : (text : List ℕ) (p q : Program) → Spells text p → tokens_of text ≡ Some (spelling q) → ProgramReads q → KeepsRules q
+keeps_as_spelled : (text : List ℕ) (p q : Program) → Spells text p → tokens_of text ≡ Some (spelling q)
+    → ProgramReads q → KeepsRules q
 keeps_as_spelled text p q s is r =
     subst KeepsRules (programs_once p q (program_reads p s.rules) r (same_spelling text p q s.tokens is)) s.rules
 
-pub set_in_extraction : (text : List ℕ) (p : Program) → Spells text p → tokens_of text ≡ Some (spelling (placed_program in_decoder in_decoder)) → ⊥
+pub set_in_extraction : (text : List ℕ) (p : Program) → Spells text p
+    → tokens_of text ≡ Some (spelling (placed_program in_decoder in_decoder)) → ⊥
 set_in_extraction text p s is =
-    let k = keeps_as_spelled text p (placed_program in_decoder in_decoder) s is (placed_reads in_decoder in_decoder with_set with_set) in
+    let k = keeps_as_spelled text p (placed_program in_decoder in_decoder) s is
+    (placed_reads in_decoder in_decoder with_set with_set) in
     let extraction = All-head ExtractionKeeps _ [] k.extracts_keep in
     let assignment = All-head AssignmentKeeps _ [] extraction.assigns in
     let place = assignment.place in cc
 
-pub no_set_in_decoder : (text : List ℕ) (p : Program) → Spells text p → tokens_of text ≡ Some (spelling (placed_program in_extraction in_extraction)) → ⊥
+pub no_set_in_decoder : (text : List ℕ) (p : Program) → Spells text p
+    → tokens_of text ≡ Some (spelling (placed_program in_extraction in_extraction)) → ⊥
 no_set_in_decoder text p s is =
-    let k = keeps_as_spelled text p (placed_program in_extraction in_extraction) s is (placed_reads in_extraction in_extraction alone alone) in
+    let k = keeps_as_spelled text p (placed_program in_extraction in_extraction) s is
+    (placed_reads in_extraction in_extraction alone alone) in
     let place = k.body_keeps.0.3 in cc

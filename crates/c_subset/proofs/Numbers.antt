@@ -19,9 +19,11 @@ hex_once : (k m n : ℕ) → m < 16 ^ k → n < 16 ^ k → hex k m ≡ hex k n �
 unfolding hex
 hex_once zero m n h l e = omega arith
 hex_once (suc k) m n h l e =
-    let p = same_from_push (hex k (m / 16)) (hex k (n / 16)) (digit_glyph false (m % 16)) (digit_glyph false (n % 16)) e in
+    let p = same_from_push (hex k (m / 16)) (hex k (n / 16)) (digit_glyph false (m % 16))
+    (digit_glyph false (n % 16)) e in
     let low : m % 16 ≡ n % 16 = glyph_once (m % 16) (n % 16) (omega arith) (omega arith) p.1 in
-    let high : m / 16 ≡ n / 16 = hex_once k (m / 16) (n / 16) (omega (arith, pow-suc 16 k)) (omega (arith, pow-suc 16 k)) p.0 in
+    let high : m / 16 ≡ n / 16 = hex_once k (m / 16) (n / 16) (omega (arith, pow-suc 16 k))
+    (omega (arith, pow-suc 16 k)) p.0 in
     omega arith
 
 -- what has at most as many bits as a word has at most as many digits
@@ -30,7 +32,8 @@ fits_digits W16 m h = h
 fits_digits W32 m h = h
 fits_digits W64 m h = h
 
-pub word_number_once : (w : Width) (m n : ℕ) → m < 2 ^ width_bits w → n < 2 ^ width_bits w → hex (hex_length w) m ≡ hex (hex_length w) n → m ≡ n
+pub word_number_once : (w : Width) (m n : ℕ) → m < 2 ^ width_bits w → n < 2 ^ width_bits w
+    → hex (hex_length w) m ≡ hex (hex_length w) n → m ≡ n
 word_number_once w m n h k e = hex_once (hex_length w) m n (fits_digits w m h) (fits_digits w n k) e
 
 -- a place or a length

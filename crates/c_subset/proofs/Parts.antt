@@ -22,12 +22,19 @@ AllAlike R [] (y ∷ ys) = ⊥
 AllAlike R (x ∷ xs) [] = ⊥
 AllAlike R (x ∷ xs) (y ∷ ys) = R x y × AllAlike R xs ys
 
-pub parts_once : {A : Type 0} (P : A → Type 0) (f g : A → List Token) (R : A → A → Type 0) (one : (x y : A) (a b : List Token) → P x → P y → f x ++ a ≡ g y ++ b → R x y × (a ≡ b)) (xs ys : List A) (a b : List Token) → All P xs → All P ys → ((x : A) (c : List Token) → g x ++ c ≡ a → ⊥) → ((x : A) (c : List Token) → f x ++ c ≡ b → ⊥) → flat_map f xs ++ a ≡ flat_map g ys ++ b → AllAlike R xs ys × (a ≡ b)
+pub parts_once : {A : Type 0} (P : A → Type 0) (f g : A → List Token) (R : A → A → Type 0)
+    (one : (x y : A) (a b : List Token) → P x → P y → f x ++ a ≡ g y ++ b → R x y × (a ≡ b)) (xs ys : List A)
+    (a b : List Token) → All P xs → All P ys → ((x : A) (c : List Token) → g x ++ c ≡ a → ⊥)
+    → ((x : A) (c : List Token) → f x ++ c ≡ b → ⊥) → flat_map f xs ++ a ≡ flat_map g ys ++ b
+    → AllAlike R xs ys × (a ≡ b)
 parts_once P f g R one [] [] a b h k stop end e = (tt, e)
-parts_once P f g R one [] (y ∷ ys) a b h k stop end e = absurd (stop y (flat_map g ys ++ b) (sym (append_assoc (g y) (flat_map g ys) b) ∙ sym e))
-parts_once P f g R one (x ∷ xs) [] a b h k stop end e = absurd (end x (flat_map f xs ++ a) (sym (append_assoc (f x) (flat_map f xs) a) ∙ e))
+parts_once P f g R one [] (y ∷ ys) a b h k stop end e =
+    absurd (stop y (flat_map g ys ++ b) (sym (append_assoc (g y) (flat_map g ys) b) ∙ sym e))
+parts_once P f g R one (x ∷ xs) [] a b h k stop end e =
+    absurd (end x (flat_map f xs ++ a) (sym (append_assoc (f x) (flat_map f xs) a) ∙ e))
 parts_once P f g R one (x ∷ xs) (y ∷ ys) a b h k stop end e =
-    let first = one x y (flat_map f xs ++ a) (flat_map g ys ++ b) (All-head P x xs h) (All-head P y ys k) (sym (append_assoc (f x) (flat_map f xs) a) ∙ e ∙ append_assoc (g y) (flat_map g ys) b) in
+    let first = one x y (flat_map f xs ++ a) (flat_map g ys ++ b) (All-head P x xs h) (All-head P y ys k)
+    (sym (append_assoc (f x) (flat_map f xs) a) ∙ e ∙ append_assoc (g y) (flat_map g ys) b) in
     let more = parts_once P f g R one xs ys a b (All-tail P x xs h) (All-tail P y ys k) stop end first.1 in
     ((first.0, more.0), more.1)
 
@@ -38,7 +45,11 @@ all_same (x ∷ xs) [] h = absurd h
 all_same (x ∷ xs) (y ∷ ys) h = let q = all_same xs ys h.1 in λ i. h.0 i ∷ q i
 
 -- parts that are the same where they are spelled alike
-pub same_parts : {A : Type 0} (P : A → Type 0) (f : A → List Token) (one : (x y : A) (a b : List Token) → P x → P y → f x ++ a ≡ f y ++ b → Same x y a b) (xs ys : List A) (a b : List Token) → All P xs → All P ys → ((x : A) (c : List Token) → f x ++ c ≡ a → ⊥) → ((x : A) (c : List Token) → f x ++ c ≡ b → ⊥) → flat_map f xs ++ a ≡ flat_map f ys ++ b → Same xs ys a b
+pub same_parts : {A : Type 0} (P : A → Type 0) (f : A → List Token)
+    (one : (x y : A) (a b : List Token) → P x → P y → f x ++ a ≡ f y ++ b → Same x y a b) (xs ys : List A)
+    (a b : List Token) → All P xs → All P ys → ((x : A) (c : List Token) → f x ++ c ≡ a → ⊥)
+    → ((x : A) (c : List Token) → f x ++ c ≡ b → ⊥) → flat_map f xs ++ a ≡ flat_map f ys ++ b → Same xs ys a b
 same_parts P f one xs ys a b h k stop end e =
-    let q = parts_once P f f (λ x y. x ≡ y) (λ x y c d l m is. let o = one x y c d l m is in (o.same, o.rest)) xs ys a b h k stop end e in
+    let q = parts_once P f f (λ x y. x ≡ y)
+    (λ x y c d l m is. let o = one x y c d l m is in (o.same, o.rest)) xs ys a b h k stop end e in
     record { same = all_same xs ys q.0; rest = q.1 }

@@ -3,7 +3,8 @@ use Rattle.std.specs.Prelude.{◌≡◌, ℕ, true, false, List, [], ◌∷◌, 
 use Rattle.dt_values.specs.declared.width.Width.TheVariants.{W32, W64}
 use Rattle.dt_values.specs.declared.ctype.CType.TheVariants.{Int, U64}
 use Rattle.c_subset.specs.Tokens.{word, mark, double_equals, arrow, tokens_of}
-use Rattle.c_subset.specs.Exprs.{Source, insn, argument, Term, constant, segment, deposit, cast, function, applied, Assignment}
+use Rattle.c_subset.specs.Exprs.{Source, insn, argument, Term, constant, segment, deposit, cast, function, applied}
+use Rattle.c_subset.specs.Exprs.{Assignment}
 use Rattle.c_subset.specs.Programs.{Name, Stmts, on_mask, extract, assign, call, done, then, Program}
 use Rattle.c_subset.specs.Spells.{Spells}
 
@@ -205,7 +206,9 @@ abbrev pub Assigned : Type 0
 Assigned = Spells assigned_text assigned_program
 
 pub record TokenExamples : Type 0 where
-  pub all_kinds : tokens_of (codes "a/* x **/b==c->d= ===/***/-\t1_Z") ≡ Some (word (codes "a") ∷ word (codes "b") ∷ double_equals ∷ word (codes "c") ∷ arrow ∷ word (codes "d") ∷ mark 61 ∷ double_equals ∷ mark 61 ∷ mark 45 ∷ word (codes "1_Z") ∷ [])
+  pub all_kinds : tokens_of (codes "a/* x **/b==c->d= ===/***/-\t1_Z") ≡ Some
+      (word (codes "a") ∷ word (codes "b") ∷ double_equals ∷ word (codes "c") ∷ arrow ∷ word
+      (codes "d") ∷ mark 61 ∷ double_equals ∷ mark 61 ∷ mark 45 ∷ word (codes "1_Z") ∷ [])
   pub lone_slash : tokens_of (codes "a / b") ≡ None
   pub open_comment : tokens_of (codes "a /* b") ≡ None
   pub shortest_comment : tokens_of (codes "/*/ a") ≡ None

@@ -1,7 +1,9 @@
 -- The rules that expressions of a program keep (docs/C_SUBSET.md, "Expressions").
-use Rattle.std.specs.Prelude.{◌≡◌, ℕ, ◌<◌, ◌^◌, Bool, true, false, not, IsTrue, List, ℤ, pos, negsuc, Option, Some, None, is_some}
+use Rattle.std.specs.Prelude.{◌≡◌, ℕ, ◌<◌, ◌^◌, Bool, true, false, not, IsTrue, List, ℤ, pos, negsuc, Option, Some}
+use Rattle.std.specs.Prelude.{None, is_some}
 use Rattle.dt_values.specs.Names.{IsName}
-use Rattle.c_subset.specs.Exprs.{Source, insn, argument, Term, constant, segment, deposit, cast, function, applied, Assignment}
+use Rattle.c_subset.specs.Exprs.{Source, insn, argument, Term, constant, segment, deposit, cast, function, applied}
+use Rattle.c_subset.specs.Exprs.{Assignment}
 
 abbrev pub is_segment : Term → Bool
 is_segment (segment signed from place length) = true

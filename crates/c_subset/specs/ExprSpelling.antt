@@ -1,8 +1,10 @@
 -- How expressions and assignments are spelled in tokens (docs/C_SUBSET.md, "Expressions").
-use Rattle.std.specs.Prelude.{ℕ, suc, Bool, true, false, List, [], ◌∷◌, ◌++◌, ℤ, pos, negsuc, Option, Some, None, codes, decimal}
+use Rattle.std.specs.Prelude.{ℕ, suc, Bool, true, false, List, [], ◌∷◌, ◌++◌, ℤ, pos, negsuc, Option, Some, None, codes}
+use Rattle.std.specs.Prelude.{decimal}
 use Rattle.dt_values.specs.declared.width.Width.{Width}
 use Rattle.dt_values.specs.declared.width.Width.TheVariants.{W16, W32, W64}
-use Rattle.c_subset.specs.Exprs.{Source, insn, argument, Term, constant, segment, deposit, cast, function, applied, Assignment}
+use Rattle.c_subset.specs.Exprs.{Source, insn, argument, Term, constant, segment, deposit, cast, function, applied}
+use Rattle.c_subset.specs.Exprs.{Assignment}
 use Rattle.c_subset.specs.Marks.{open_round, close_round, semicolon, comma, dot, minus, equals, f_}
 use Rattle.c_subset.specs.Tokens.{Token, word, arrow}
 

@@ -9,7 +9,8 @@ use Rattle.dt_values.specs.declared.ctype.CType.TheVariants.{Other}
 use Rattle.dt_fields.specs.declared.set.SetDef.{SetDef}
 use Rattle.dt_fields.specs.declared.set.TheConstants.{MOST_ARGUMENTS}
 use Rattle.c_subset.specs.ExprForms.{AssignmentKeeps, StandsIn, TermKeeps}
-use Rattle.c_subset.specs.Programs.{Name, Stmt, on_mask, extract, assign, call, Stmts, done, then, Pattern, Extraction, Program}
+use Rattle.c_subset.specs.Programs.{Name, Stmt, on_mask, extract, assign, call, Stmts, done, then, Pattern, Extraction}
+use Rattle.c_subset.specs.Programs.{Program}
 
 abbrev pub AllDiffer : List Name → Type 0
 AllDiffer names = AllPairs (λ x y. x ≢ y) names

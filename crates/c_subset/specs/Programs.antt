@@ -9,7 +9,8 @@ use Rattle.dt_fields.specs.declared.set.SetDef.{SetDef}
 use Rattle.dt_text.specs.Hexadecimal.{hex}
 use Rattle.c_subset.specs.Exprs.{Assignment, Term}
 use Rattle.c_subset.specs.ExprSpelling.{assign_spelled, assignment_spelled}
-use Rattle.c_subset.specs.Marks.{open_round, close_round, open_brace, close_brace, semicolon, comma, asterisk, ampersand, dot, arg_, f_}
+use Rattle.c_subset.specs.Marks.{open_round, close_round, open_brace, close_brace, semicolon, comma, asterisk}
+use Rattle.c_subset.specs.Marks.{ampersand, dot, arg_, f_}
 use Rattle.c_subset.specs.Tokens.{Token, word, double_equals}
 
 -- the bytes of a name

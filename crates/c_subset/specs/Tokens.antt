@@ -1,5 +1,6 @@
 -- The tokens of a C text, read byte by byte (C17, 6.4 and 6.4.9; the C subset, docs/C_SUBSET.md).
-use Rattle.std.specs.Prelude.{ℕ, ◌==◌, if◌then◌else◌, List, [], ◌∷◌, ◌++◌, Option, Some, None, option_map, option_and_then}
+use Rattle.std.specs.Prelude.{ℕ, ◌==◌, if◌then◌else◌, List, [], ◌∷◌, ◌++◌, Option, Some, None, option_map}
+use Rattle.std.specs.Prelude.{option_and_then}
 use Rattle.dt_values.specs.Names.{is_name_byte}
 use Rattle.c_subset.specs.Bytes.{is_white, is_mark}
 

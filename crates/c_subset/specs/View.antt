@@ -1,7 +1,9 @@
 -- The plain program that a program stands for (the C subset, docs/C_SUBSET.md).
 use Rattle.std.specs.Prelude.{List, [], ◌∷◌, Bool, Option, Some, None, map, option_map}
-use Rattle.c_subset.specs.Exprs.{Source, insn, argument, Term, constant, segment, deposit, cast, function, applied, Assignment}
-use Rattle.c_subset.specs.Programs.{Name, Stmt, on_mask, extract, assign, call, Stmts, done, then, Pattern, Extraction, Prefix, Program}
+use Rattle.c_subset.specs.Exprs.{Source, insn, argument, Term, constant, segment, deposit, cast, function, applied}
+use Rattle.c_subset.specs.Exprs.{Assignment}
+use Rattle.c_subset.specs.Programs.{Name, Stmt, on_mask, extract, assign, call, Stmts, done, then, Pattern, Extraction}
+use Rattle.c_subset.specs.Programs.{Prefix, Program}
 use Rattle.c_subset.specs.declared.expr.Expr.{Expr, fold-Expr}
 use Rattle.c_subset.specs.declared.expr.Expr.TheOpen.{Expr-F}
 use Rattle.c_subset.specs.declared.expr.Input.{Input}

@@ -1,11 +1,13 @@
 -- The parts of a sound model are sound, and their text decodes its patterns.
-use Rattle.std.proofs.Common.{◌≡◌, ◌≢◌, ℕ, ◌<◌, ◌||◌, List, [], ◌∷◌, length, get_or, map, Option, Some, None, Bool, not, true, false, cond, refl, sym, ap, ap₂, ◌∙◌, subst}
+use Rattle.std.proofs.Common.{◌≡◌, ◌≢◌, ℕ, ◌<◌, ◌||◌, List, [], ◌∷◌, length, get_or, map, Option, Some, None, Bool, not}
+use Rattle.std.proofs.Common.{true, false, cond, refl, sym, ap, ap₂, ◌∙◌, subst}
 use Rattle.std.specs.Prelude.{All, AllPairs, IsPermutation, IsSome, option_map}
 use Rattle.std.specs.List.{list_any}
 use Rattle.std.proofs.lemmas.List.{get_or-map, length-map}
 use Rattle.std.proofs.lemmas.List.Sorted.{list_any-IsPermutation}
 use Rattle.std.proofs.lemmas.Bool.{and_parts}
-use Rattle.std.proofs.lemmas.List.Elements.{All-append, All-cons, All-filter, All-head, All-map, All-nil, All-tail, All-weaker, filter_passes}
+use Rattle.std.proofs.lemmas.List.Elements.{All-append, All-cons, All-filter, All-head, All-map, All-nil, All-tail}
+use Rattle.std.proofs.lemmas.List.Elements.{All-weaker, filter_passes}
 use Rattle.std.proofs.lemmas.List.Folds.{list_any_at}
 use Rattle.dt_values.specs.Names.{is_name, IsName}
 use Rattle.dt_values.specs.Types.{is_text}
@@ -41,7 +43,8 @@ use Rattle.c_eval.specs.Runs.{assigns_in}
 use Rattle.c_fields.specs.Values.{HasRoom}
 use Rattle.c_fields.specs.Written.{assignment_of}
 use Rattle.c_fields.proofs.Forms.{value_stands}
-use Rattle.c_writer.specs.Parts.{Parts, set_name, set_members, set_name_of, format_name, format_values_of, assignments_of, extraction_of, named_pattern, parts_of, patterns_in}
+use Rattle.c_writer.specs.Parts.{Parts, set_name, set_members, set_name_of, format_name, format_values_of}
+use Rattle.c_writer.specs.Parts.{assignments_of, extraction_of, named_pattern, parts_of, patterns_in}
 use Rattle.c_writer.specs.Chain.{chain_program}
 use Rattle.c_writer.specs.Decoders.{IsDecoder}
 use Rattle.c_writer.specs.Layout.{layout}
@@ -68,7 +71,17 @@ abbrev no_format : Format
 no_format = record { name = []; set = 0; bits = 0; fixed_bits = 0; fixed_mask = 0; ignored = 0; values = [] }
 
 no_pattern : Pattern
-no_pattern = record { name = []; file = 0; line = 0; format = 0; bits = 0; fixed_bits = 0; fixed_mask = 0; ignored = 0; values = [] }
+no_pattern = record {
+  name = [];
+  file = 0;
+  line = 0;
+  format = 0;
+  bits = 0;
+  fixed_bits = 0;
+  fixed_mask = 0;
+  ignored = 0;
+  values = [];
+}
 
 -- what a sound set says of a declared one
 name_of_c_name : (n : Name) → IsCName n → IsName n
@@ -91,9 +104,11 @@ set_keeps s inside h = record {
   named = h.named;
   inside = inside;
   few = h.few;
-  arguments_named = All-weaker (λ (m : Member). IsCName m.name) (λ (m : Member). IsName m.name) (λ m k. name_of_c_name m.name k) s.members h.c_names;
+  arguments_named = All-weaker (λ (m : Member). IsCName m.name) (λ (m : Member). IsName m.name)
+      (λ m k. name_of_c_name m.name k) s.members h.c_names;
   arguments_differ = pairs_map (λ x y. x ≢ y) (λ (m : Member). m.name) no_member s.members h.different;
-  types = All-weaker (λ (m : Member). IsSoundType m.ctype) (λ (m : Member). IsTypeKept m.ctype) (λ m k. type_kept m.ctype k) s.members h.types;
+  types = All-weaker (λ (m : Member). IsSoundType m.ctype) (λ (m : Member). IsTypeKept m.ctype)
+      (λ m k. type_kept m.ctype k) s.members h.types;
 }
 
 not_outside : (b : Bool) → not b ≡ true → b ≡ false
@@ -103,10 +118,12 @@ not_outside false h = refl
 declared_keep : (sets : List SetDef) → All IsSoundSet sets → All SetKeeps (declared_sets sets)
 declared_keep sets h k d below =
     let s = get_or (declared_sets sets) k d in
-    set_keeps s (not_outside s.outside (filter_passes (λ t. not t.outside) sets k d below)) (All-filter (λ t. not t.outside) IsSoundSet sets h k d below)
+    set_keeps s (not_outside s.outside (filter_passes (λ t. not t.outside) sets k d below))
+    (All-filter (λ t. not t.outside) IsSoundSet sets h k d below)
 
 -- what holds of all items holds of the item of a number
-at : {X Y : Type 0} (P : Y → Type 0) (f : X → Y) (xs : List X) (n : ℕ) (d : Y) → All (λ x. P (f x)) xs → n < length xs → P (get_or (map f xs) n d)
+at : {X Y : Type 0} (P : Y → Type 0) (f : X → Y) (xs : List X) (n : ℕ) (d : Y) → All (λ x. P (f x)) xs → n < length xs
+    → P (get_or (map f xs) n d)
 at P f xs n d h below = All-map P f xs h n d (subst (λ l. n < l) (sym (length-map xs f)) below)
 
 -- what an argument gets, by a permutation of the arguments' names
@@ -114,47 +131,70 @@ given_first : (b : Bool) (given : FieldValue) (rest : Option FieldValue) → b �
 given_first true given rest h = refl
 given_first false given rest h = cc
 
-given_where : (name : Name) (v : Name × FieldValue) (vs : GivenValues) (b : Bool) → (b || list_any (is_text name) (map (λ (w : Name × FieldValue). w.0) vs)) ≡ true
-    → (list_any (is_text name) (map (λ (w : Name × FieldValue). w.0) vs) ≡ true → IsSome (given_in vs name)) → IsSome (cond b (Some v.1) (given_in vs name))
+given_where : (name : Name) (v : Name × FieldValue) (vs : GivenValues) (b : Bool)
+    → (b || list_any (is_text name) (map (λ (w : Name × FieldValue). w.0) vs)) ≡ true
+    → (list_any (is_text name) (map (λ (w : Name × FieldValue). w.0) vs) ≡ true → IsSome (given_in vs name))
+    → IsSome (cond b (Some v.1) (given_in vs name))
 given_where name v vs true h later = refl
 given_where name v vs false h later = later h
 
-given_some : (name : Name) (vs : GivenValues) → list_any (is_text name) (map (λ (w : Name × FieldValue). w.0) vs) ≡ true → IsSome (given_in vs name)
+given_some : (name : Name) (vs : GivenValues)
+    → list_any (is_text name) (map (λ (w : Name × FieldValue). w.0) vs) ≡ true → IsSome (given_in vs name)
 given_some name [] h = cc
 given_some name (v ∷ vs) h = given_where name v vs (is_text name v.0) h (given_some name vs)
 
-each_given : (ms : List Member) (vs : GivenValues) → IsPermutation (map (λ (v : Name × FieldValue). v.0) vs) (map (λ (m : Member). m.name) ms) → All (λ m. IsSome (given_in vs m.name)) ms
+each_given : (ms : List Member) (vs : GivenValues)
+    → IsPermutation (map (λ (v : Name × FieldValue). v.0) vs) (map (λ (m : Member). m.name) ms)
+    → All (λ m. IsSome (given_in vs m.name)) ms
 each_given ms vs h k d below =
     let name = (get_or ms k d).name in
     let names = map (λ (m : Member). m.name) ms in
-    let there : is_text name (get_or names k d.name) ≡ true = ap (is_text name) (get_or-map (λ (m : Member). m.name) ms k d d.name below) ∙ text_itself name in
+    let there : is_text name (get_or names k d.name) ≡ true =
+    ap (is_text name) (get_or-map (λ (m : Member). m.name) ms k d d.name below) ∙ text_itself name in
     given_some name vs
     (list_any-IsPermutation (is_text name) (map (λ (v : Name × FieldValue). v.0) vs) names h
-    ∙ list_any_at (is_text name) names k d.name (subst (λ n. k < n) (sym (length-map ms (λ (m : Member). m.name))) below) there)
+    ∙ list_any_at (is_text name) names k d.name
+    (subst (λ n. k < n) (sym (length-map ms (λ (m : Member). m.name))) below) there)
 
 -- what sound values assign keeps the rules, where each such assignment does
 module _ (w : Width) (set : Option Name) (Keeps : Assignment → Type 0)
-    (each : (name : Name) (given : FieldValue) → IsName name → IsSoundValue (width_bits w) given → Keeps (assignment_of (helper_bits w) set (name, given))) where
-  assignment_keeps : (name : Name) (o : Option FieldValue) (vs all : GivenValues) → IsName name → given_in all name ≡ o → All (λ v. IsSoundValue (width_bits w) v.1) all → All Keeps (map (assignment_of (helper_bits w) set) vs)
+    (each : (name : Name) (given : FieldValue) → IsName name → IsSoundValue (width_bits w) given
+    → Keeps (assignment_of (helper_bits w) set (name, given))) where
+  assignment_keeps : (name : Name) (o : Option FieldValue) (vs all : GivenValues) → IsName name
+      → given_in all name ≡ o → All (λ v. IsSoundValue (width_bits w) v.1) all
+      → All Keeps (map (assignment_of (helper_bits w) set) vs)
       → All Keeps (map (assignment_of (helper_bits w) set) (given_before name o vs))
   assignment_keeps name None vs all named is sound h = h
   assignment_keeps name (Some given) vs all named is sound h =
       let keeps : IsSoundValue (width_bits w) given = given_has (IsSoundValue (width_bits w)) all name given sound is in
-      All-cons Keeps (assignment_of (helper_bits w) set (name, given)) (map (assignment_of (helper_bits w) set) vs) (each name given named keeps) h
+      All-cons Keeps (assignment_of (helper_bits w) set (name, given)) (map (assignment_of (helper_bits w) set) vs)
+      (each name given named keeps) h
 
-  assignments_keep : (ms : List Member) (vs : GivenValues) → All (λ m. IsName m.name) ms → All (λ v. IsSoundValue (width_bits w) v.1) vs → All Keeps (assignments_of (helper_bits w) set ms vs)
+  assignments_keep : (ms : List Member) (vs : GivenValues) → All (λ m. IsName m.name) ms
+      → All (λ v. IsSoundValue (width_bits w) v.1) vs → All Keeps (assignments_of (helper_bits w) set ms vs)
   assignments_keep [] vs named sound = All-nil _
   assignments_keep (m ∷ ms) vs named sound =
-      assignment_keeps m.name (given_in vs m.name) (in_set_order ms vs) vs (All-head (λ (m : Member). IsName m.name) m ms named) refl sound
+      assignment_keeps m.name (given_in vs m.name) (in_set_order ms vs) vs
+      (All-head (λ (m : Member). IsName m.name) m ms named) refl sound
       (assignments_keep ms vs (All-tail (λ (m : Member). IsName m.name) m ms named) sound)
 
-extraction_keeps : (w : Width) (ms : List Member) (vs : GivenValues) → All (λ m. IsName m.name) ms → All (λ v. IsSoundValue (width_bits w) v.1) vs → All AssignmentKeeps (assignments_of (helper_bits w) None ms vs)
+extraction_keeps : (w : Width) (ms : List Member) (vs : GivenValues) → All (λ m. IsName m.name) ms
+    → All (λ v. IsSoundValue (width_bits w) v.1) vs → All AssignmentKeeps (assignments_of (helper_bits w) None ms vs)
 extraction_keeps w =
-    assignments_keep w None AssignmentKeeps (λ name given named sound. record { argument = named; value = value_keeps None w given sound; place = value_stands (helper_bits w) None given })
+    assignments_keep w None AssignmentKeeps
+    (λ name given named sound. record
+    { argument = named; value = value_keeps None w given sound; place = value_stands (helper_bits w) None given })
 
-own_keep : (w : Width) (set : Name) (ms : List Member) (vs : GivenValues) → All (λ m. IsName m.name) ms → All (λ v. IsSoundValue (width_bits w) v.1) vs → All OwnKeeps (assignments_of (helper_bits w) (Some set) ms vs)
+own_keep : (w : Width) (set : Name) (ms : List Member) (vs : GivenValues) → All (λ m. IsName m.name) ms
+    → All (λ v. IsSoundValue (width_bits w) v.1) vs → All OwnKeeps (assignments_of (helper_bits w) (Some set) ms vs)
 own_keep w set =
-    assignments_keep w (Some set) OwnKeeps (λ name given named sound. record { argument = named; value = value_keeps (Some set) w given sound; place = value_stands (helper_bits w) (Some set) given })
+    assignments_keep w (Some set) OwnKeeps
+    (λ name given named sound. record {
+      argument = named;
+      value = value_keeps (Some set) w given sound;
+      place = value_stands (helper_bits w)
+          (Some set) given;
+    })
 
 module _ (n : ℕ) (sets : List SetDef) (formats : List Format) where
   -- the format of a pattern, and what it says
@@ -174,25 +214,35 @@ module _ (n : ℕ) (sets : List SetDef) (formats : List Format) where
   values_of_format p below = get_or-map (λ (f : Format). f.values) formats p.format no_format [] below
 
   -- the extraction of the format is found by its name
-  format_there : (p : Pattern) → AllPairs (λ e f. e.format ≢ f.format) (map (extraction_of n sets) formats) → IsOfFormat p
-      → assigns_in (map (extraction_of n sets) formats) (format_name formats p.format) (set_name sets (set_number formats p)) ≡ Some (assignments_of n None (members_of_pattern sets formats p) (format_values_of formats p))
+  format_there : (p : Pattern) → AllPairs (λ e f. e.format ≢ f.format) (map (extraction_of n sets) formats)
+      → IsOfFormat p
+      → assigns_in (map (extraction_of n sets) formats) (format_name formats p.format)
+      (set_name sets (set_number formats p)) ≡ Some
+      (assignments_of n None (members_of_pattern sets formats p) (format_values_of formats p))
   format_there p differ below =
       let es = map (extraction_of n sets) formats in
       let e = extraction_of n sets no_format in
-      let inside : p.format < length es = subst (λ l. p.format < l) (sym (length-map formats (extraction_of n sets))) below in
-      let there = subst (λ (x : Extraction). assigns_in es x.format x.set ≡ Some x.assigns) (get_or-map (extraction_of n sets) formats p.format no_format e below) (assigns_at es p.format e differ inside) in
+      let inside : p.format < length es =
+      subst (λ l. p.format < l) (sym (length-map formats (extraction_of n sets))) below in
+      let there = subst (λ (x : Extraction). assigns_in es x.format x.set ≡ Some x.assigns)
+      (get_or-map (extraction_of n sets) formats p.format no_format e below)
+      (assigns_at es p.format e differ inside) in
       ap₂ (assigns_in es) (name_of_format p below) (ap (set_name sets) (set_of_format p below))
       ∙ there
-      ∙ sym (ap₂ (λ s vs. Some (assignments_of n None (set_members sets s) vs)) (set_of_format p below) (values_of_format p below))
+      ∙ sym (ap₂ (λ s vs. Some (assignments_of n None (set_members sets s) vs)) (set_of_format p below)
+      (values_of_format p below))
 
 -- the set of a pattern is found by its name, with its arguments
-set_there : (sets : List SetDef) (n : ℕ) → AllPairs (λ s t. s.name ≢ t.name) sets → n < length sets → option_map (λ s. s.members) (set_at sets (set_name sets n)) ≡ Some (set_members sets n)
+set_there : (sets : List SetDef) (n : ℕ) → AllPairs (λ s t. s.name ≢ t.name) sets → n < length sets
+    → option_map (λ s. s.members) (set_at sets (set_name sets n)) ≡ Some (set_members sets n)
 set_there sets n differ below =
-    ap (λ name. option_map (λ (s : SetDef). s.members) (set_at sets name)) (get_or-map (λ (s : SetDef). s.name) sets n no_set [] below)
+    ap (λ name. option_map (λ (s : SetDef). s.members) (set_at sets name))
+    (get_or-map (λ (s : SetDef). s.name) sets n no_set [] below)
     ∙ ap (option_map (λ (s : SetDef). s.members)) (found_at sets n no_set differ below)
     ∙ ap Some (sym (get_or-map (λ (s : SetDef). s.members) sets n no_set [] below))
 
-pub sound_parts : (options : Options) (model : Model) → IsOptions options → model.width ≡ options.width → IsSound model → AreSound (parts_of options (definitions_in model))
+pub sound_parts : (options : Options) (model : Model) → IsOptions options → model.width ≡ options.width
+    → IsSound model → AreSound (parts_of options (definitions_in model))
 sound_parts options model asked width s = record {
   decoder_named = option_named options.decode asked.decode;
   prefix_named = option_named options.translate asked.translate;
@@ -206,7 +256,8 @@ sound_parts options model asked width s = record {
         set = at IsName (λ (d : SetDef). d.name) model.sets f.set [] names (s.set_numbers k d below);
         assigns =
             extraction_keeps options.width (set_members model.sets f.set) f.values
-            (at (λ (ms : List Member). All (λ m. IsName m.name) ms) (λ (d : SetDef). d.members) model.sets f.set [] arguments (s.set_numbers k d below))
+            (at (λ (ms : List Member). All (λ m. IsName m.name) ms)
+            (λ (d : SetDef). d.members) model.sets f.set [] arguments (s.set_numbers k d below))
             (values k d below);
       });
   formats_differ = apart;
@@ -227,30 +278,36 @@ sound_parts options model asked width s = record {
     arguments : All (λ (d : SetDef). All (λ m. IsName m.name) d.members) model.sets
     arguments =
         All-weaker IsSoundSet (λ (d : SetDef). All (λ m. IsName m.name) d.members)
-        (λ d h. All-weaker (λ (m : Member). IsCName m.name) (λ (m : Member). IsName m.name) (λ m k. name_of_c_name m.name k) d.members h.c_names) model.sets s.sets_sound
+        (λ d h. All-weaker (λ (m : Member). IsCName m.name) (λ (m : Member). IsName m.name)
+        (λ m k. name_of_c_name m.name k) d.members h.c_names) model.sets s.sets_sound
 
     values : All (λ (f : Format). All (λ v. IsSoundValue (width_bits options.width) v.1) f.values) model.formats
-    values = subst (λ w. All (λ (f : Format). All (λ v. IsSoundValue (width_bits w) v.1) f.values) model.formats) width s.format_values
+    values = subst (λ w. All (λ (f : Format). All (λ v. IsSoundValue (width_bits w) v.1) f.values) model.formats)
+        width s.format_values
 
     own_values : All (λ (p : Pattern). All (λ v. IsSoundValue (width_bits options.width) v.1) p.values) model.patterns
-    own_values = subst (λ w. All (λ (p : Pattern). All (λ v. IsSoundValue (width_bits w) v.1) p.values) model.patterns) width s.pattern_values
+    own_values = subst (λ w. All (λ (p : Pattern). All (λ v. IsSoundValue (width_bits w) v.1) p.values)
+        model.patterns) width s.pattern_values
 
     differ : All (λ (d : SetDef). AllPairs (λ (m n : Member). m.name ≢ n.name) d.members) model.sets
-    differ = All-weaker IsSoundSet (λ (d : SetDef). AllPairs (λ (m n : Member). m.name ≢ n.name) d.members) (λ d h. h.different) model.sets s.sets_sound
+    differ = All-weaker IsSoundSet (λ (d : SetDef). AllPairs (λ (m n : Member). m.name ≢ n.name) d.members)
+        (λ d h. h.different) model.sets s.sets_sound
 
     apart : AllPairs (λ e f. e.format ≢ f.format) (map extraction model.formats)
     apart = pairs_map (λ (e f : Extraction). e.format ≢ f.format) extraction no_format model.formats s.format_names
 
     flat : All (λ p. IsSoundPattern (width_bits model.width) (pattern_seen p)) model.patterns
     flat k d below =
-        subst (IsSoundPattern (width_bits model.width)) (get_or-map pattern_seen model.patterns k d (pattern_seen d) below)
+        subst (IsSoundPattern (width_bits model.width))
+        (get_or-map pattern_seen model.patterns k d (pattern_seen d) below)
         (s.flat_sound k (pattern_seen d) (subst (λ l. k < l) (sym (length-map model.patterns pattern_seen)) below))
 
     each_sound : All (λ p. IsSoundIn parts (named_pattern model.sets model.formats p)) model.patterns
     each_sound k d below =
         let p = get_or model.patterns k d in
         let format : p.format < length model.formats = s.format_numbers k d below in
-        let set : set_number model.formats p < length model.sets = at (λ n. n < length model.sets) (λ (f : Format). f.set) model.formats p.format 0 s.set_numbers format in
+        let set : set_number model.formats p < length model.sets =
+        at (λ n. n < length model.sets) (λ (f : Format). f.set) model.formats p.format 0 s.set_numbers format in
         record {
           pattern = subst (λ w. IsSoundPattern (width_bits w) (pattern_seen p)) width (flat k d below);
           format_named = at IsName (λ (f : Format). f.name) model.formats p.format [] s.formats_named format;
@@ -258,22 +315,28 @@ sound_parts options model asked width s = record {
           set = set_there model.sets (set_number model.formats p) s.set_names set;
           format = format_there (helper_bits options.width) model.sets model.formats p apart format;
           values = record {
-            each = each_given (members_of_pattern model.sets model.formats p) (given_values model.formats p) (s.values k d below);
+            each = each_given (members_of_pattern model.sets model.formats p) (given_values model.formats p)
+                (s.values k d below);
             sound =
-                All-append (λ (v : Name × FieldValue). IsSoundValue (width_bits options.width) v.1) (format_values_of model.formats p) p.values
-                (at (λ (vs : GivenValues). All (λ v. IsSoundValue (width_bits options.width) v.1) vs) (λ (f : Format). f.values) model.formats p.format [] values format)
+                All-append (λ (v : Name × FieldValue). IsSoundValue (width_bits options.width) v.1)
+                (format_values_of model.formats p) p.values
+                (at (λ (vs : GivenValues). All (λ v. IsSoundValue (width_bits options.width) v.1) vs)
+                (λ (f : Format). f.values) model.formats p.format [] values format)
                 (own_values k d below);
           };
           once = record {
             all = refl;
             apart =
                 given_apart (format_values_of model.formats p) p.values (members_of_pattern model.sets model.formats p)
-                (at (λ (ms : List Member). AllPairs (λ m n. m.name ≢ n.name) ms) (λ (d : SetDef). d.members) model.sets (set_number model.formats p) [] differ set)
+                (at (λ (ms : List Member). AllPairs (λ m n. m.name ≢ n.name) ms)
+                (λ (d : SetDef). d.members) model.sets (set_number model.formats p) [] differ set)
                 (s.values k d below);
           };
           own =
-              own_keep options.width (set_name_of model.sets model.formats p) (members_of_pattern model.sets model.formats p) p.values
-              (at (λ (ms : List Member). All (λ m. IsName m.name) ms) (λ (d : SetDef). d.members) model.sets (set_number model.formats p) [] arguments set)
+              own_keep options.width (set_name_of model.sets model.formats p)
+              (members_of_pattern model.sets model.formats p) p.values
+              (at (λ (ms : List Member). All (λ m. IsName m.name) ms) (λ (d : SetDef). d.members) model.sets
+              (set_number model.formats p) [] arguments set)
               (own_values k d below);
         }
 
@@ -282,20 +345,25 @@ pub within_sound : (model : Model) → IsSound model → AreWithin (definitions_
 within_sound model s = record { forms = s.set_numbers; patterns = s.format_numbers }
 
 -- helpers have room for its values
-have_room : (w : Width) (vs : GivenValues) → All (λ v. IsSoundValue (width_bits w) v.1) vs → HaveValuesRoom (helper_bits w) vs
-have_room w vs sound = All-weaker (λ v. IsSoundValue (width_bits w) v.1) (λ v. HasRoom (helper_bits w) v.1) (λ v h. value_has_room w v.1 h) vs sound
+have_room : (w : Width) (vs : GivenValues) → All (λ v. IsSoundValue (width_bits w) v.1) vs
+    → HaveValuesRoom (helper_bits w) vs
+have_room w vs sound = All-weaker (λ v. IsSoundValue (width_bits w) v.1) (λ v. HasRoom (helper_bits w) v.1)
+    (λ v h. value_has_room w v.1 h) vs sound
 
-pub room_sound : (options : Options) (model : Model) → model.width ≡ options.width → IsSound model → All (FormatHasRoom (helper_bits options.width)) model.formats
+pub room_sound : (options : Options) (model : Model) → model.width ≡ options.width → IsSound model
+    → All (FormatHasRoom (helper_bits options.width)) model.formats
 room_sound options model width s =
     subst (λ w. All (FormatHasRoom (helper_bits w)) model.formats) width
     (λ k d below. have_room model.width (get_or model.formats k d).values (s.format_values k d below))
 
-pub own_room_sound : (options : Options) (model : Model) → model.width ≡ options.width → IsSound model → All (PatternHasRoom (helper_bits options.width)) model.patterns
+pub own_room_sound : (options : Options) (model : Model) → model.width ≡ options.width → IsSound model
+    → All (PatternHasRoom (helper_bits options.width)) model.patterns
 own_room_sound options model width s =
     subst (λ w. All (PatternHasRoom (helper_bits w)) model.patterns) width
     (λ k d below. have_room model.width (get_or model.patterns k d).values (s.pattern_values k d below))
 
-pub trials_of_parts : (sets : List SetDef) (formats : List Format) (ps : List Pattern) → map (λ q. q.trial) (map (named_pattern sets formats) ps) ≡ map (trial_pattern sets formats) ps
+pub trials_of_parts : (sets : List SetDef) (formats : List Format) (ps : List Pattern)
+    → map (λ q. q.trial) (map (named_pattern sets formats) ps) ≡ map (trial_pattern sets formats) ps
 trials_of_parts sets formats [] = refl
 trials_of_parts sets formats (p ∷ ps) = ap (λ l. trial_pattern sets formats p ∷ l) (trials_of_parts sets formats ps)
 
@@ -308,9 +376,12 @@ layout_decodes p s = record {
 }
 
 -- the text of a sound model decodes its patterns
-pub text_decodes : (options : Options) (model : Model) (text : List ℕ) → IsOptions options → model.width ≡ options.width → IsSound model
-    → text ≡ layout (parts_of options (definitions_in model)) → IsDecoder options.width text (outside_sets model.sets) (trial_patterns (definitions_in model))
+pub text_decodes : (options : Options) (model : Model) (text : List ℕ) → IsOptions options
+    → model.width ≡ options.width → IsSound model
+    → text ≡ layout (parts_of options (definitions_in model))
+    → IsDecoder options.width text (outside_sets model.sets) (trial_patterns (definitions_in model))
 text_decodes options model text asked width s is =
     subst (λ t. IsDecoder options.width t (outside_sets model.sets) (trial_patterns (definitions_in model))) (sym is)
-    (subst (λ (ps : List TrialPattern). IsDecoder options.width (layout (parts_of options (definitions_in model))) (outside_sets model.sets) ps) (trials_of_parts model.sets model.formats model.patterns)
+    (subst (λ (ps : List TrialPattern). IsDecoder options.width (layout (parts_of options (definitions_in model)))
+    (outside_sets model.sets) ps) (trials_of_parts model.sets model.formats model.patterns)
     (layout_decodes (parts_of options (definitions_in model)) (sound_parts options model asked width s)))

@@ -33,24 +33,32 @@ module _ (set : Option Name) where
   segment_named (Named name length signed) alone = absurd alone
 
   value_named : (width : ℕ) (given : FieldValue) → IsSoundValue width given → of_fields.IsValueNamed set given
-  value_named width (Field field) h = All-weaker IsOfWord (λ s. SourceNamed (source_of set s)) segment_named field.segments h.1
+  value_named width (Field field) h =
+      All-weaker IsOfWord (λ s. SourceNamed (source_of set s)) segment_named field.segments h.1
   value_named width (Constant z) h = tt
 
   segment_shown : (at : Place) (held : Name → ℤ) (s : Segment) → IsOfWord s → IsShown set at held s
   segment_shown at held (Bits place length signed) alone = tt
   segment_shown at held (Named name length signed) alone = absurd alone
 
-  value_shown : (width : ℕ) (at : Place) (held : Name → ℤ) (given : FieldValue) → IsSoundValue width given → of_fields.ShowsValue set at held given
-  value_shown width at held (Field field) h = All-weaker IsOfWord (IsShown set at held) (segment_shown at held) field.segments h.1
+  value_shown : (width : ℕ) (at : Place) (held : Name → ℤ) (given : FieldValue) → IsSoundValue width given
+      → of_fields.ShowsValue set at held given
+  value_shown width at held (Field field) h =
+      All-weaker IsOfWord (IsShown set at held) (segment_shown at held) field.segments h.1
   value_shown width at held (Constant z) h = tt
 
-  pub value_expression : (w : Width) (at : Place) (held : Name → ℤ) (given : FieldValue) → IsSoundValue (width_bits w) given → at.bits ≡ helper_bits w → at.word < 2 ^ width_bits w
+  pub value_expression : (w : Width) (at : Place) (held : Name → ℤ) (given : FieldValue)
+      → IsSoundValue (width_bits w) given → at.bits ≡ helper_bits w → at.word < 2 ^ width_bits w
       → value_at at (value_term (helper_bits w) set given) ≡ Some (value_of at.answer held at.word given)
   value_expression w at held given sound e small =
-      value_law w set given held at (sound_value (width_bits w) given sound) e small (value_shown (width_bits w) at held given sound)
+      value_law w set given held at (sound_value (width_bits w) given sound) e small
+      (value_shown (width_bits w) at held given sound)
 
-  pub value_keeps : (w : Width) (given : FieldValue) → IsSoundValue (width_bits w) given → TermKeeps (value_term (helper_bits w) set given)
-  value_keeps w given sound = forms.value_keeps w set given (sound_value (width_bits w) given sound) (value_named (width_bits w) given sound)
+  pub value_keeps : (w : Width) (given : FieldValue) → IsSoundValue (width_bits w) given
+      → TermKeeps (value_term (helper_bits w) set given)
+  value_keeps w given sound = forms.value_keeps w set given (sound_value (width_bits w) given sound)
+      (value_named (width_bits w) given sound)
 
-pub value_has_room : (w : Width) (given : FieldValue) → IsSoundValue (width_bits w) given → of_fields.HasRoom (helper_bits w) given
+pub value_has_room : (w : Width) (given : FieldValue) → IsSoundValue (width_bits w) given
+    → of_fields.HasRoom (helper_bits w) given
 value_has_room w given sound = forms.value_has_room w given (sound_value (width_bits w) given sound)

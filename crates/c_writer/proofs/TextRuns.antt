@@ -25,16 +25,24 @@ use Rattle.c_writer.proofs.Models.{sound_parts, trials_of_parts}
 use Rattle.c_writer.proofs.Rules.{keeps_rules}
 
 -- it is the one that tries the patterns
-pub spelled_program : (p : Parts) (program : Program) → AreSound p → Spells (layout p) program → program ≡ chain_program p
+pub spelled_program : (p : Parts) (program : Program) → AreSound p → Spells (layout p) program
+    → program ≡ chain_program p
 spelled_program p program sound spells =
-    law_text_spells_one (layout p) program (chain_program p) spells (record { rules = keeps_rules p sound; tokens = layout_tokens p sound })
+    law_text_spells_one (layout p) program (chain_program p) spells
+    (record { rules = keeps_rules p sound; tokens = layout_tokens p sound })
 
-pub run_of_text : {S : Type 0} (host : Host S) (options : Options) (model : Model) (program : Program) (word : ℕ) (state : S)
-    → IsOptions options → model.width ≡ options.width → IsSound model → Spells (layout (parts_of options (definitions_in model))) program → word < 2 ^ width_bits options.width
-    → AgreesWith (trial_of host (trial_patterns (definitions_in model)) word state) (run_of program (outside_sets model.sets) host word state)
+pub run_of_text : {S : Type 0} (host : Host S) (options : Options) (model : Model) (program : Program) (word : ℕ)
+    (state : S)
+    → IsOptions options → model.width ≡ options.width → IsSound model
+    → Spells (layout (parts_of options (definitions_in model))) program → word < 2 ^ width_bits options.width
+    → AgreesWith (trial_of host (trial_patterns (definitions_in model)) word state)
+    (run_of program (outside_sets model.sets) host word state)
 run_of_text host options model program word state asked width s spells below =
     let p : Parts = parts_of options (definitions_in model) in
     let sound : AreSound p = sound_parts options model asked width s in
-    subst (λ (r : Program). AgreesWith (trial_of host (trial_patterns (definitions_in model)) word state) (run_of r (outside_sets model.sets) host word state)) (sym (spelled_program p program sound spells))
-    (subst (λ (ps : List TrialPattern). AgreesWith (trial_of host ps word state) (run_of (chain_program p) (outside_sets model.sets) host word state)) (trials_of_parts model.sets model.formats model.patterns)
+    subst (λ (r : Program). AgreesWith (trial_of host (trial_patterns (definitions_in model)) word state)
+    (run_of r (outside_sets model.sets) host word state)) (sym (spelled_program p program sound spells))
+    (subst (λ (ps : List TrialPattern). AgreesWith (trial_of host ps word state)
+    (run_of (chain_program p) (outside_sets model.sets) host word state))
+    (trials_of_parts model.sets model.formats model.patterns)
     (program_agrees host p word state below sound))

@@ -28,7 +28,8 @@ pub record IsDecoder (width : Width) (text : List ℕ) (outside : List SetDef) (
   pub decodes : Decodes width program outside ps
 
 -- a decoder of these patterns came behind the bytes that are known
-pub record AppendsDecoder (width : Width) (old new : Option (List ℕ)) (outside : List SetDef) (ps : List TrialPattern) : Type 0 where
+pub record AppendsDecoder (width : Width) (old new : Option (List ℕ)) (outside : List SetDef)
+    (ps : List TrialPattern) : Type 0 where
   pub text : List ℕ
   pub decoder : IsDecoder width text outside ps
   pub written : new ≡ extend old text

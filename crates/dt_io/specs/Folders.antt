@@ -46,7 +46,8 @@ pub record IsOnlyChanged (before after : FolderSeen) : Type 0 where
   pub reads : after.reads ≡ before.reads
 
 -- A change with this answer leaves these files. It fails only where the count of failed changes rose.
-pub record Changes {T E : Type 0} (before after : FolderSeen) (leaves : Option Files) (result : Result T E) : Type 0 where
+pub record Changes {T E : Type 0} (before after : FolderSeen) (leaves : Option Files)
+    (result : Result T E) : Type 0 where
   pub files : after.files ≡ leaves
   pub cause : OnErr result (ChangeFailed before after)
   pub only : IsOnlyChanged before after

@@ -1,5 +1,6 @@
 -- A folder in memory, and what its next call does.
-use Rattle.std.specs.Prelude.{ℕ, ◌-◌, min, Bool, ◌==◌, ◌||◌, nat_eq, not, String, Vec, List, [], ◌++◌, map, length, take}
+use Rattle.std.specs.Prelude.{ℕ, ◌-◌, min, Bool, ◌==◌, ◌||◌, nat_eq, not, String, Vec, List, [], ◌++◌, map, length}
+use Rattle.std.specs.Prelude.{take}
 use Rattle.std.specs.Prelude.{Option, Some, None, is_none, Result, Ok, Err, if◌then◌else◌}
 use Rattle.std.specs.List.{list_any, IsDistinct}
 use Rattle.std.specs.Cmp.Lexicographic.{pointwise}
@@ -94,7 +95,8 @@ after_append memory name piece = left (append_count memory name piece)
   where
     left : Option ℕ → FolderMemory
     left None = after_fault memory
-    left (Some n) = after_change_to memory (changed name (Some (bytes_of name memory.places ++ take n piece)) memory.places)
+    left (Some n) = after_change_to memory
+        (changed name (Some (bytes_of name memory.places ++ take n piece)) memory.places)
 
 abbrev pub after_remove : FolderMemory → List ℕ → FolderMemory
 after_remove memory name =

@@ -29,8 +29,8 @@ file_seen folder name reference = record {
   };
 }
 
--- A file is left over by a write that failed: it is as it was, or it holds bytes of the text from its start, and not all
--- of them. No other file changed.
+-- A file is left over by a write that failed: it is as it was, or it holds bytes of the text from its start, and not
+-- all of them. No other file changed.
 pub data LeavesPart (before after : Option Files) (name text : List ℕ) : Type 0 where
   as_before : after ≡ before → LeavesPart before after name text
   part : (n : ℕ) → n < length text → after ≡ with_file before name (take n text) → LeavesPart before after name text

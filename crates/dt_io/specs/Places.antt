@@ -64,7 +64,8 @@ appended_to place piece step = taken_in (place.room - length (unwrap_or place.co
 -- the same of the first place of a name, if there is one
 abbrev pub appended_in : List ℕ → List Place → List ℕ → ℕ → Option ℕ
 appended_in name places piece step =
-    if has_place name places then taken_in (room_of name places - length (bytes_of name places)) step (length piece) else None
+    if has_place name places then taken_in (room_of name places - length (bytes_of name places)) step
+    (length piece) else None
 
 -- what an append leaves that takes so much, if it does
 abbrev pub grown_in : List ℕ → List Place → List ℕ → Option ℕ → List Place
@@ -77,7 +78,8 @@ pub record IsPlaceOf (name : List ℕ) (places : List Place) (i : ℕ) : Type 0 
   pub there : has_place name places ≡ true
   pub content : (d : Place) → content_of name places ≡ (slice_index_or places i d).content
   pub room : (d : Place) → room_of name places ≡ (slice_index_or places i d).room
-  pub set : (d : Place) (content : Option (List ℕ)) → slice_set places i (record (slice_index_or places i d) { content = content }) ≡ changed name content places
+  pub set : (d : Place) (content : Option (List ℕ))
+      → slice_set places i (record (slice_index_or places i d) { content = content }) ≡ changed name content places
 
 -- no place has this name
 pub record IsNoPlace (name : List ℕ) (places : List Place) : Type 0 where

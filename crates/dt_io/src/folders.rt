@@ -39,8 +39,8 @@ pub trait Folder {
     fn create(&mut self, name: &str) -> Result<(), Failed>
         ensures { Changes (seen self.old) (seen self.new) (created (seen self.old).files name.now result) result };
 
-    /// Puts some of the piece behind a file, from the piece's start, and says how many bytes. A file that isn't there is
-    /// made first, also for an empty piece.
+    /// Puts some of the piece behind a file, from the piece's start, and says how many bytes. A file that isn't there
+    /// is made first, also for an empty piece.
     fn append(&mut self, name: &str, piece: &[u8]) -> Result<usize, Failed>
         ensures some { TakesSome result piece.now }
         ensures change { Changes (seen self.old) (seen self.new)

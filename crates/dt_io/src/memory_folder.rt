@@ -176,9 +176,9 @@ fn copy_at(file: &[u8], at: u64, step: usize, buf: &mut [u8]) -> usize
 }
 
 impl MemoryFolder {
-    /// A folder of copies of these files, with room for outputs of these names, which aren't held before they are made. It
-    /// takes all its memory at once: for each file and output `room` bytes, or as many as the file has where that is
-    /// more. A removed file's room is kept.
+    /// A folder of copies of these files, with room for outputs of these names, which aren't held before they are made.
+    /// It takes all its memory at once: for each file and output `room` bytes, or as many as the file has where that
+    /// is more. A removed file's room is kept.
     #[tactic(auto, using(crate::proofs::Places::files_new))]
     pub fn new(
         alloc: Global,

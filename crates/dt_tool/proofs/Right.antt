@@ -1,5 +1,6 @@
 -- What a run of `gen` promises where a text is made, and where it stops.
-use Rattle.std.proofs.Common.{◌≡◌, ◌≢◌, ◌≤◌, ℕ, List, Option, Some, None, Result, Err, refl, ap, sym, ◌∙◌, subst, arith, inl, inr, ◌⊎◌}
+use Rattle.std.proofs.Common.{◌≡◌, ◌≢◌, ◌≤◌, ℕ, List, Option, Some, None, Result, Err, refl, ap, sym, ◌∙◌, subst, arith}
+use Rattle.std.proofs.Common.{inl, inr, ◌⊎◌}
 use Rattle.std.specs.Prelude.{IfSome}
 use Rattle.dt_io.specs.Causes.{Rose}
 use Rattle.dt_io.specs.Files.{Files, with_file}
@@ -11,7 +12,8 @@ use Rattle.dt_tool.specs.Due.{Asked, Due, missing, refused, written, IsDue, IsDu
 use Rattle.dt_tool.specs.Inputs as inputs
 use Rattle.dt_tool.specs.Inputs.{inputs_of, texts_in}
 use Rattle.dt_tool.specs.Messages as said
-use Rattle.dt_tool.specs.Outcomes.{RunSeen, Completes, CompletesOver, IsRightGen, Means, ChangesOnly, NoCountFalls, Says, Stands, StandsPart, WritingFailed}
+use Rattle.dt_tool.specs.Outcomes.{RunSeen, Completes, CompletesOver, IsRightGen, Means, ChangesOnly, NoCountFalls}
+use Rattle.dt_tool.specs.Outcomes.{Says, Stands, StandsPart, WritingFailed}
 use Rattle.dt_tool.specs.Stops.{IsMade, IsTextOf, StopsGen}
 use Rattle.dt_tool.specs.View.{message_of, outcome_of}
 use Rattle.dt_tool.specs.declared.generate.Stop.{Stop}
@@ -21,7 +23,12 @@ use Rattle.dt_tool.specs.declared.status.Outcome.TheVariants as outcomes
 use Rattle.dt_tool.proofs.OneDue.{one_due}
 
 only_the_same : {R : Type 0} (before after : SinkSeen R) → after ≡ before → IsOnlyWritten before after
-only_the_same before after same = record { faults = let f = ap (λ (s : SinkSeen _). s.faults) same in omega arith; rest = ap (λ (s : SinkSeen _). s.rest) same }
+only_the_same before after same =
+    record {
+      faults = let f = ap (λ (s : SinkSeen _). s.faults) same in omega arith;
+      rest = ap
+          (λ (s : SinkSeen _). s.rest) same;
+    }
 
 no_later : (a b c : ℕ) → a ≤ b → b ≤ c → a ≤ c
 no_later a b c h k = omega arith
@@ -41,7 +48,8 @@ falls_not : (before mid after : FolderSeen) → IsOnlyRead before mid → NoCoun
 falls_not before mid after only counts = record {
   misses = no_later before.misses mid.misses after.misses only.misses counts.misses;
   read_faults = no_later before.read_faults mid.read_faults after.read_faults only.read_faults counts.read_faults;
-  write_faults = no_later before.write_faults mid.write_faults after.write_faults (same_or_less before.write_faults mid.write_faults only.write_faults) counts.write_faults;
+  write_faults = no_later before.write_faults mid.write_faults after.write_faults
+      (same_or_less before.write_faults mid.write_faults only.write_faults) counts.write_faults;
   reads = no_later before.reads mid.reads after.reads only.reads counts.reads;
 }
 
@@ -59,18 +67,24 @@ late mid run = record {
 
 module _ {O E : Type 0} (asked : Asked) (run : RunSeen O E) where
   -- what is due decides how a run is completed
-  completes : (files : Files) (made : Due) → IsDue asked files made → Completes made run.outcome (ReadFailed run.folder run.folder_after) (WritingFailed asked.output run) → CompletesOver asked run files
-  completes files made due is = λ what h. subst (λ (d : Due). Completes d run.outcome (ReadFailed run.folder run.folder_after) (WritingFailed asked.output run)) (one_due asked files made what due h) is
+  completes : (files : Files) (made : Due) → IsDue asked files made
+      → Completes made run.outcome (ReadFailed run.folder run.folder_after) (WritingFailed asked.output run)
+      → CompletesOver asked run files
+  completes files made due is = λ what h. subst
+      (λ (d : Due). Completes d run.outcome (ReadFailed run.folder run.folder_after) (WritingFailed asked.output run))
+      (one_due asked files made what due h) is
 
   -- a text was made, and handed over
-  module _ (mid : FolderSeen) (only : IsOnlyRead run.folder mid) (text : List ℕ) (made : IsMade asked run.folder.files text) where
+  module _ (mid : FolderSeen) (only : IsOnlyRead run.folder mid) (text : List ℕ)
+      (made : IsMade asked run.folder.files text) where
     stands : (output : Option (List ℕ)) → Stands output (late mid run) text → Stands output run text
     stands None h = h
     stands (Some name) h = h ∙ ap (λ known. with_file known name text) only.files
 
     stands_part : (output : Option (List ℕ)) → StandsPart output (late mid run) text → StandsPart output run text
     stands_part None h = h
-    stands_part (Some name) h = subst (λ (known : Option Files). LeavesPart known run.folder_after.files name text) only.files h
+    stands_part (Some name) h = subst
+        (λ (known : Option Files). LeavesPart known run.folder_after.files name text) only.files h
 
     writing_failed : (output : Option (List ℕ)) → WritingFailed output (late mid run) → WritingFailed output run
     writing_failed None h = h
@@ -81,10 +95,18 @@ module _ {O E : Type 0} (asked : Asked) (run : RunSeen O E) where
     means outcomes.Refused h = absurd h
     means outcomes.Usage h = absurd h
     means outcomes.ReadFault h = absurd h
-    means outcomes.WriteFault h = record { text = text; made = made; part = stands_part asked.output h.part; cause = writing_failed asked.output h.cause; said = h.said }
+    means outcomes.WriteFault h = record {
+      text = text;
+      made = made;
+      part = stands_part asked.output h.part;
+      cause = writing_failed asked.output
+          h.cause;
+      said = h.said;
+    }
     means outcomes.NoMemory h = absurd h
 
-    written_completes : (outcome : Outcome) → DeliveryMeans asked.output text (late mid run) outcome → Completes (written text) outcome (ReadFailed run.folder run.folder_after) (WritingFailed asked.output run)
+    written_completes : (outcome : Outcome) → DeliveryMeans asked.output text (late mid run) outcome
+        → Completes (written text) outcome (ReadFailed run.folder run.folder_after) (WritingFailed asked.output run)
     written_completes outcomes.Done h = inl refl
     written_completes outcomes.Refused h = absurd h
     written_completes outcomes.Usage h = absurd h
@@ -93,11 +115,13 @@ module _ {O E : Type 0} (asked : Asked) (run : RunSeen O E) where
     written_completes outcomes.NoMemory h = absurd h
 
     complete_over : (known : Option Files) → IfSome known (λ files. IsTextOf asked (inputs_of files asked.names) text)
-        → Completes (written text) run.outcome (ReadFailed run.folder run.folder_after) (WritingFailed asked.output run) → IfSome known (CompletesOver asked run)
+        → Completes (written text) run.outcome (ReadFailed run.folder run.folder_after)
+        (WritingFailed asked.output run) → IfSome known (CompletesOver asked run)
     complete_over None due is = tt
     complete_over (Some files) due is = completes files (written text) due.due is
 
-    one_of_two : (outcome : Outcome) → DeliveryMeans asked.output text (late mid run) outcome → (outcome ≢ outcomes.Done) × (outcome ≢ outcomes.WriteFault) → ⊥
+    one_of_two : (outcome : Outcome) → DeliveryMeans asked.output text (late mid run) outcome
+        → (outcome ≢ outcomes.Done) × (outcome ≢ outcomes.WriteFault) → ⊥
     one_of_two outcomes.Done h neither = neither.0 refl
     one_of_two outcomes.Refused h neither = h
     one_of_two outcomes.Usage h neither = h
@@ -131,47 +155,59 @@ module _ {O E : Type 0} (asked : Asked) (run : RunSeen O E) where
       err = err;
     }
 
-    right_of : (outcome : Outcome) → run.outcome ≡ outcome → Means asked run outcome → IfSome run.folder.files (CompletesOver asked run) → IsOnlyWritten run.err run.err_after → IsRightGen asked run
+    right_of : (outcome : Outcome) → run.outcome ≡ outcome → Means asked run outcome
+        → IfSome run.folder.files (CompletesOver asked run) → IsOnlyWritten run.err run.err_after → IsRightGen asked run
     right_of outcome is means complete err = record {
       means = subst (λ (o : Outcome). Means asked run o) (sym is) means;
       complete = complete;
       only = stop_changes err;
     }
 
-    refusal_complete : (message : List ℕ) (known : Option Files) → run.outcome ≡ outcomes.Refused → IfSome known (λ files. IsDue asked files (refused message)) → IfSome known (CompletesOver asked run)
+    refusal_complete : (message : List ℕ) (known : Option Files) → run.outcome ≡ outcomes.Refused
+        → IfSome known (λ files. IsDue asked files (refused message)) → IfSome known (CompletesOver asked run)
     refusal_complete message None is due = tt
     refusal_complete message (Some files) is due = completes files (refused message) due (inl is)
 
     -- a read fault completes what is due, whether the input isn't held or a read failed
-    failed_complete : (what : Due) → run.outcome ≡ outcomes.ReadFault → ReadFailed run.folder run.folder_after → Completes what run.outcome (ReadFailed run.folder run.folder_after) (WritingFailed asked.output run)
+    failed_complete : (what : Due) → run.outcome ≡ outcomes.ReadFault → ReadFailed run.folder run.folder_after
+        → Completes what run.outcome (ReadFailed run.folder run.folder_after) (WritingFailed asked.output run)
     failed_complete (missing file) is failed = inl is
     failed_complete (refused message) is failed = inr (inr failed)
     failed_complete (written text) is failed = inr (inr (inl failed))
 
-    missing_due : (files : Files) (file : List ℕ) → texts_in (inputs_of files asked.names) ≡ Err (inputs.missing file) → IsDue asked files (missing file)
-    missing_due files file is = let P : Result (List (List ℕ)) inputs.Unread → Type 0 = λ r. IsDueOfTexts asked r (missing file) in subst P (sym is) refl
+    missing_due : (files : Files) (file : List ℕ) → texts_in (inputs_of files asked.names) ≡ Err (inputs.missing file)
+        → IsDue asked files (missing file)
+    missing_due files file is = let P : Result (List (List ℕ)) inputs.Unread
+        → Type 0 = λ r. IsDueOfTexts asked r (missing file) in subst P (sym is) refl
 
     unread_complete : (file : List ℕ) (known : Option Files) → run.outcome ≡ outcomes.ReadFault
-        → IfSome known (λ files. (texts_in (inputs_of files asked.names) ≡ Err (inputs.missing file)) ⊎ ReadFailed run.folder run.folder_after) → IfSome known (CompletesOver asked run)
+        → IfSome known (λ files. (texts_in (inputs_of files asked.names) ≡ Err (inputs.missing file))
+        ⊎ ReadFailed run.folder run.folder_after) → IfSome known (CompletesOver asked run)
     unread_complete file None is h = tt
-    unread_complete file (Some files) is (inl none) = completes files (missing file) (missing_due files file none) (inl is)
+    unread_complete file (Some files) is (inl none) =
+        completes files (missing file) (missing_due files file none) (inl is)
     unread_complete file (Some files) is (inr failed) = λ what due. failed_complete what is failed
 
     -- want of memory completes anything
-    memory_complete : (what : Due) → run.outcome ≡ outcomes.NoMemory → Completes what run.outcome (ReadFailed run.folder run.folder_after) (WritingFailed asked.output run)
+    memory_complete : (what : Due) → run.outcome ≡ outcomes.NoMemory
+        → Completes what run.outcome (ReadFailed run.folder run.folder_after) (WritingFailed asked.output run)
     memory_complete (missing file) is = inr (inl is)
     memory_complete (refused message) is = inr (inl is)
     memory_complete (written text) is = inr (inl is)
 
-    memory_complete_over : (known : Option Files) → run.outcome ≡ outcomes.NoMemory → IfSome known (CompletesOver asked run)
+    memory_complete_over : (known : Option Files) → run.outcome ≡ outcomes.NoMemory
+        → IfSome known (CompletesOver asked run)
     memory_complete_over None is = tt
     memory_complete_over (Some files) is = λ what due. memory_complete what is
 
-    pub right_stop : (stop : Stop) → StopsGen asked run.folder run.folder_after stop → run.outcome ≡ outcome_of stop → Says run (message_of stop) → IsRightGen asked run
+    pub right_stop : (stop : Stop) → StopsGen asked run.folder run.folder_after stop → run.outcome ≡ outcome_of stop
+        → Says run (message_of stop) → IsRightGen asked run
     right_stop (stops.ReadFault message) stop is says =
         right_of outcomes.ReadFault is
         (record { place = stop.place; unread = stop.unread; said = subst (λ (m : List ℕ). Says run m) stop.said says })
         (unread_complete (said.name_at asked.names stop.place) run.folder.files is stop.unread.stops) says.only
     right_stop (stops.Refused message) stop is says =
-        right_of outcomes.Refused is (record { message = message.items; refusal = stop; said = says }) (refusal_complete message.items run.folder.files is stop.known) says.only
-    right_stop stops.NoMemory stop is says = right_of outcomes.NoMemory is says (memory_complete_over run.folder.files is) says.only
+        right_of outcomes.Refused is (record { message = message.items; refusal = stop; said = says })
+        (refusal_complete message.items run.folder.files is stop.known) says.only
+    right_stop stops.NoMemory stop is says =
+        right_of outcomes.NoMemory is says (memory_complete_over run.folder.files is) says.only

@@ -1,5 +1,6 @@
 -- Files whose lines are read one after another.
-use Rattle.std.proofs.Common.{◌≡◌, ℕ, ◌+◌, ◌≤◌, List, [], ◌∷◌, ◌++◌, length, get_or, None, ap, sym, ◌∙◌, subst, arith, inl, inr, append_assoc}
+use Rattle.std.proofs.Common.{◌≡◌, ℕ, ◌+◌, ◌≤◌, List, [], ◌∷◌, ◌++◌, length, get_or, None, ap, sym, ◌∙◌, subst, arith}
+use Rattle.std.proofs.Common.{inl, inr, append_assoc}
 use Rattle.std.proofs.Math.Seq.{get_or-append_seam}
 use Rattle.std.proofs.lemmas.Bool.{cases_lt}
 use Rattle.std.proofs.lemmas.List.{get_or_append_left, length-append, map-append}
@@ -20,9 +21,12 @@ pub record AreRead (texts : List (List ℕ)) (sources : List Source) (left : Lis
   pub read : AreSources sources
   pub faults : fault_of_files 0 texts ≡ fault_of_files (length sources) left
 
-more_sources : (sources : List Source) (source : Source) → AreSources sources → IsSourceAt (length sources) source → AreSources (sources ++ source ∷ [])
+more_sources : (sources : List Source) (source : Source) → AreSources sources → IsSourceAt (length sources) source
+    → AreSources (sources ++ source ∷ [])
 more_sources sources source are is place d h = elim (cases_lt place (length sources)) [
-  | inl within ↦ (let P : Source → Type 0 = λ s. IsSourceAt place s in subst P (sym (get_or_append_left sources (source ∷ []) d place within)) (are place d within))
+  | inl within ↦ (let P : Source → Type 0 =
+      λ s. IsSourceAt place s in subst P (sym (get_or_append_left sources (source ∷ []) d place within))
+      (are place d within))
   | inr last ↦ (
       let longer : length (sources ++ source ∷ []) ≡ length sources + 1 = length-append sources (source ∷ []) in
       let here : length sources ≡ place = omega arith in
@@ -32,10 +36,13 @@ more_sources sources source are is place d h = elim (cases_lt place (length sour
       )
 ]
 
-pub one_more_read : (texts : List (List ℕ)) (sources : List Source) (source : Source) (text : List ℕ) (left : List (List ℕ)) → AreRead texts sources (text ∷ left)
-    → IsSourceAt (length sources) source → source.bytes ≡ text → file_fault (length sources) text ≡ None → AreRead texts (sources ++ source ∷ []) left
+pub one_more_read : (texts : List (List ℕ)) (sources : List Source) (source : Source) (text : List ℕ)
+    (left : List (List ℕ)) → AreRead texts sources (text ∷ left)
+    → IsSourceAt (length sources) source → source.bytes ≡ text → file_fault (length sources) text ≡ None
+    → AreRead texts (sources ++ source ∷ []) left
 one_more_read texts sources source text left read is bytes kept = record {
-  all = ap (λ ts. ts ++ left) (map-append (λ (s : Source). s.bytes) sources (source ∷ [])) ∙ append_assoc (texts_of sources) (source.bytes ∷ []) left
+  all = ap (λ ts. ts ++ left) (map-append (λ (s : Source). s.bytes) sources (source ∷ []))
+      ∙ append_assoc (texts_of sources) (source.bytes ∷ []) left
       ∙ ap (λ t. texts_of sources ++ t ∷ left) bytes ∙ read.all;
   small = All-tail (λ t. length t ≤ LARGEST_FILE) text left read.small;
   read = more_sources sources source read.read is;
@@ -44,8 +51,11 @@ one_more_read texts sources source text left read is bytes kept = record {
 }
 
 -- the same of lists of the code
-pub read_pushed : {A : Type 0} (texts : List (List ℕ)) (sources new : List Source) (source : Source) (files left : List (Vec ℕ A)) (bytes : Vec ℕ A) → new ≡ sources ++ source ∷ [] → files ≡ bytes ∷ left
-    → AreRead texts sources (contents files) → IsSourceAt (length sources) source → source.bytes ≡ bytes.items → file_fault (length sources) bytes.items ≡ None → AreRead texts new (contents left)
+pub read_pushed : {A : Type 0} (texts : List (List ℕ)) (sources new : List Source) (source : Source)
+    (files left : List (Vec ℕ A)) (bytes : Vec ℕ A) → new ≡ sources ++ source ∷ [] → files ≡ bytes ∷ left
+    → AreRead texts sources (contents files) → IsSourceAt (length sources) source → source.bytes ≡ bytes.items
+    → file_fault (length sources) bytes.items ≡ None → AreRead texts new (contents left)
 read_pushed texts sources new source files left bytes pushed next read is same kept =
     subst (λ (ss : List Source). AreRead texts ss (contents left)) (sym pushed)
-    (one_more_read texts sources source bytes.items (contents left) (subst (λ (ts : List (List ℕ)). AreRead texts sources ts) (ap contents next) read) is same kept)
+    (one_more_read texts sources source bytes.items (contents left)
+    (subst (λ (ts : List (List ℕ)). AreRead texts sources ts) (ap contents next) read) is same kept)

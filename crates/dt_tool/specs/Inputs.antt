@@ -1,5 +1,6 @@
 -- What is read of the files that a command names, one after another (docs/COMMANDS.md, "Outcomes").
-use Rattle.std.specs.Prelude.{ℕ, ◌≡◌, ◌<◌, nat_lt, List, [], ◌∷◌, map, length, All, Option, None, Some, IsSomeAnd, Result, Ok, Err, if◌then◌else◌}
+use Rattle.std.specs.Prelude.{ℕ, ◌≡◌, ◌<◌, nat_lt, List, [], ◌∷◌, map, length, All, Option, None, Some, IsSomeAnd}
+use Rattle.std.specs.Prelude.{Result, Ok, Err, if◌then◌else◌}
 use Rattle.std.specs.FinMap as files_by_name
 use Rattle.dt_io.specs.Files.{Files}
 use Rattle.dt_lines.specs.declared.scan.TheConstants.{LARGEST_FILE}

@@ -98,8 +98,8 @@ pub record NoCountFalls (before after : FolderSeen) : Type 0 where
   pub write_faults : before.write_faults ≤ after.write_faults
   pub reads : before.reads ≤ after.reads
 
--- No count falls, and nothing but bytes of the sinks and the file of the output changes. That file changes, and `out` is
--- written to, only where the outcome says so.
+-- No count falls, and nothing but bytes of the sinks and the file of the output changes. That file changes, and `out`
+-- is written to, only where the outcome says so.
 pub record ChangesOnly {O E : Type 0} (output : Option (List ℕ)) (run : RunSeen O E) : Type 0 where
   pub counts : NoCountFalls run.folder run.folder_after
   pub read : (run.outcome ≢ outcomes.Done) × (run.outcome ≢ outcomes.WriteFault)

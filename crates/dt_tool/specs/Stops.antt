@@ -1,5 +1,6 @@
 -- What comes of the files that are read: a text, or what stops on the way to it.
-use Rattle.std.specs.Prelude.{ℕ, ◌≡◌, ◌<◌, ◌≤◌, ◌⊎◌, List, length, take, All, Option, Result, Ok, Err, IfSome, IsOk, Vec}
+use Rattle.std.specs.Prelude.{ℕ, ◌≡◌, ◌<◌, ◌≤◌, ◌⊎◌, List, length, take, All, Option, Result, Ok, Err, IfSome, IsOk}
+use Rattle.std.specs.Prelude.{Vec}
 use Rattle.dt_io.specs.Files.{Files, Held, NotHeld}
 use Rattle.dt_io.specs.Folders.{FolderSeen, Missed, ReadFailed}
 use Rattle.dt_lines.specs.declared.scan.TheConstants.{LARGEST_FILE}

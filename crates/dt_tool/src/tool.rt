@@ -17,8 +17,8 @@ use dt_io::{Folder, Sink, report};
 use dt_words::{Command, Usage, WordFault, read_words};
 use std::alloc::Global;
 
-/// Does what the words say: makes the C decoder of the pattern files that they name, and writes it to `out` or to a file
-/// of the folder. What went wrong is said on `err`, whose own failures change no status.
+/// Does what the words say: makes the C decoder of the pattern files that they name, and writes it to `out` or to a
+/// file of the folder. What went wrong is said on `err`, whose own failures change no status.
 /// `words` doesn't hold the program's name. All memory is taken before the first byte is written and before a file is
 /// made.
 pub fn tool<D: Folder, O: Sink, E: Sink>(

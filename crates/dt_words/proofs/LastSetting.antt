@@ -13,7 +13,8 @@ or_or None b c = refl
 or_or (Some x) b c = refl
 
 pub last_word_first : (name other : List ℕ) (roles : List Role) (role : Role)
-    → last_setting name other (roles ++ role ∷ []) ≡ option_or (setting_in name other role) (last_setting name other roles)
+    → last_setting name other (roles ++ role ∷ []) ≡ option_or (setting_in name other role)
+    (last_setting name other roles)
 last_word_first name other [] role = or_none (setting_in name other role)
 last_word_first name other (first ∷ roles) role =
     ap (λ setting. option_or setting (setting_in name other first)) (last_word_first name other roles role)

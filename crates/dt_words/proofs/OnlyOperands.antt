@@ -1,5 +1,6 @@
 -- Words behind `--`: they are operands, none of up to `MOST_FILES` is faulty, and they set nothing.
-use Rattle.std.proofs.Common.{◌≡◌, ℕ, ◌+◌, ◌≤◌, ◌<◌, Bool, false, nat_lt, List, [], ◌∷◌, length, map, replicate, Option, Some, None, is_none, is_some, refl, ap, ◌∙◌, arith, if◌then◌else◌}
+use Rattle.std.proofs.Common.{◌≡◌, ℕ, ◌+◌, ◌≤◌, ◌<◌, Bool, false, nat_lt, List, [], ◌∷◌, length, map, replicate, Option}
+use Rattle.std.proofs.Common.{Some, None, is_none, is_some, refl, ap, ◌∙◌, arith, if◌then◌else◌}
 use Rattle.std.specs.Prelude.{Ok, Err, codes}
 use Rattle.std.specs.List.{slice_get}
 use Rattle.std.specs.Option.{option_or}
@@ -39,10 +40,12 @@ file_at n h =
     slice_get-get_or (replicate MOST_FILES kind.Text) n kind.Text (omega arith)
     ∙ ap Some (get_or-replicate MOST_FILES n kind.Text kind.Text h)
 
-no_fault : (place n : ℕ) (words : List (List ℕ)) → n + length words ≤ MOST_FILES → first_fault verb.Gen place n (map Operand words) ≡ None
+no_fault : (place n : ℕ) (words : List (List ℕ)) → n + length words ≤ MOST_FILES
+    → first_fault verb.Gen place n (map Operand words) ≡ None
 no_fault place n [] h = refl
 no_fault place n (word ∷ words) h =
-    ap (λ kind. at_place place (operand_fault kind word) (first_fault verb.Gen (place + 1) (n + 1) (map Operand words))) (file_at n (omega arith))
+    ap (λ kind. at_place place (operand_fault kind word)
+    (first_fault verb.Gen (place + 1) (n + 1) (map Operand words))) (file_at n (omega arith))
     ∙ no_fault (place + 1) (n + 1) words (omega arith)
 
 -- the value of an option, and whether it is the first of two names
@@ -81,9 +84,11 @@ behind files = Ends ∷ map Operand files
 no_setting_behind : (name other : List ℕ) (files : List (List ℕ)) → last_setting name other (behind files) ≡ None
 no_setting_behind name other files = ap (λ setting. option_or setting None) (no_setting name other files)
 
-command_behind : (files : List (List ℕ)) → command_from verb.Gen (behind files) ≡ command.Gen default_options None files false
+command_behind : (files : List (List ℕ))
+    → command_from verb.Gen (behind files) ≡ command.Gen default_options None files false
 command_behind files =
-    let none : (name other : List ℕ) → last_setting name other (behind files) ≡ None = λ name other. no_setting_behind name other files in
+    let none : (name other : List ℕ)
+    → last_setting name other (behind files) ≡ None = λ name other. no_setting_behind name other files in
     by_none
     (last_setting (codes "--insnwidth") (codes "--insnwidth") (behind files))
     (last_setting (codes "--static-decode") (codes "--decode") (behind files))
@@ -99,15 +104,18 @@ command_behind files =
     ∙ ap (λ texts. command.Gen default_options None texts false) (same_operands files)
 
 -- a file isn't missing
-no_missing : (files : List (List ℕ)) → 1 ≤ length files → unless_missing verb.Gen (behind files) ≡ Ok (command.Gen default_options None files false)
+no_missing : (files : List (List ℕ)) → 1 ≤ length files
+    → unless_missing verb.Gen (behind files) ≡ Ok (command.Gen default_options None files false)
 no_missing files h =
-    let long : nat_lt (length (operands (behind files))) 1 ≡ false = ap (λ texts. nat_lt (length texts) 1) (same_operands files) ∙ grind (arith, nat_tests) in
+    let long : nat_lt (length (operands (behind files))) 1 ≡ false =
+    ap (λ texts. nat_lt (length texts) 1) (same_operands files) ∙ grind (arith, nat_tests) in
     ap (λ b. if b then Err (usage.U6, None) else Ok (command_from verb.Gen (behind files))) long
     ∙ ap Ok (command_behind files)
 
 pub files_behind_dashes : (files : List (List ℕ)) → 1 ≤ length files → length files ≤ MOST_FILES
     → command_of (codes "gen" ∷ codes "--" ∷ files) ≡ Ok (command.Gen default_options None files false)
 files_behind_dashes files some few =
-    ap (λ roles. unless_faulty (first_fault verb.Gen 1 0 (Ends ∷ roles)) verb.Gen (Ends ∷ roles)) (only_operands (options_of verb.Gen) files)
+    ap (λ roles. unless_faulty (first_fault verb.Gen 1 0 (Ends ∷ roles)) verb.Gen (Ends ∷ roles))
+    (only_operands (options_of verb.Gen) files)
     ∙ ap (λ fault. unless_faulty fault verb.Gen (behind files)) (no_fault 2 0 files (omega arith))
     ∙ no_missing files some

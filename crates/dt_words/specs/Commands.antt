@@ -1,5 +1,6 @@
 -- What the command words say: a command, or what is wrong with which word.
-use Rattle.std.specs.Prelude.{ℕ, ◌≤◌, Bool, true, false, nat_lt, List, [], ◌∷◌, length, Option, Some, None, is_none, Result, Ok, Err, codes, if◌then◌else◌}
+use Rattle.std.specs.Prelude.{ℕ, ◌≤◌, Bool, true, false, nat_lt, List, [], ◌∷◌, length, Option, Some, None, is_none}
+use Rattle.std.specs.Prelude.{Result, Ok, Err, codes, if◌then◌else◌}
 use Rattle.dt_scope.specs.Options.{IsOptions, default_options}
 use Rattle.dt_scope.specs.declared.options.Options.{Options}
 use Rattle.dt_words.specs.Rows.{verb_of, options_of, least_operands}

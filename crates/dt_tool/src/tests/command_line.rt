@@ -194,11 +194,23 @@ fn the_last_of_two_decoders_says_whether_it_is_static(rt: HostRuntime) -> Result
     let heads = [
         (
             ["gen", "--decode=d", "--static-decode=e", "-w16", "t"],
-            "/* Made from pattern files. */\n\nstatic bool e(DisasContext *ctx, uint16_t insn)\n{\n    return false;\n}\n",
+            "/* Made from pattern files. */
+
+static bool e(DisasContext *ctx, uint16_t insn)
+{
+    return false;
+}
+",
         ),
         (
             ["gen", "--static-decode=e", "--decode=d", "-w64", "t"],
-            "/* Made from pattern files. */\n\nbool d(DisasContext *ctx, uint64_t insn)\n{\n    return false;\n}\n",
+            "/* Made from pattern files. */
+
+bool d(DisasContext *ctx, uint64_t insn)
+{
+    return false;
+}
+",
         ),
     ];
     for (words, out) in heads {

@@ -7,4 +7,5 @@ returns-in-Some-split_first g c =
     let segments = sym c.items-segments.ensures ∙ c.in-Some-split_first.ensures.cases.0 in
     rw (c.in-Some.is, segments)
     (puts_more c.write_applied.ensures
-    (puts_more (rw c.in-Some-split_first.ensures.cases.0 at c.write_joined-in-Some-split_first.ensures) c.write_close.ensures))
+    (puts_more (rw c.in-Some-split_first.ensures.cases.0 at c.write_joined-in-Some-split_first.ensures)
+    c.write_close.ensures))

@@ -9,7 +9,8 @@ use Rattle.c_subset.proofs.laws.examples.Goals as goal
 
 pub returns-clause-tokens : goal.returns-clause-tokens
 unfolding read
-returns-clause-tokens c = record { all_kinds = refl; lone_slash = refl; open_comment = refl; shortest_comment = refl; lone_above = refl }
+returns-clause-tokens c = record
+    { all_kinds = refl; lone_slash = refl; open_comment = refl; shortest_comment = refl; lone_above = refl }
 
 pub returns-clause-empty : goal.returns-clause-empty
 unfolding read spelling hex

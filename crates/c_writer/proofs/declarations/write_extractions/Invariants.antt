@@ -11,4 +11,5 @@ abbrev pub invariant-loop-format : goal.invariant-loop-format
 invariant-loop-format g l =
     Puts (g.W.Out.state l.initial.out) (g.W.Out.state l.out)
     (flat_map (extraction_lines l.options.width l.options.decode)
-    (filter (λ e. is_among l.used.keys e.format) (map (extraction_of (helper_bits l.options.width) l.sets) (take l.format-index l.formats))))
+    (filter (λ e. is_among l.used.keys e.format)
+    (map (extraction_of (helper_bits l.options.width) l.sets) (take l.format-index l.formats))))

@@ -9,5 +9,6 @@ invariant-loop-number l =
       there : has_place l.name (drop l.number l.slots) ≡ has_place l.name l.slots;
       content : content_of l.name (drop l.number l.slots) ≡ content_of l.name l.slots;
       room : room_of l.name (drop l.number l.slots) ≡ room_of l.name l.slots;
-      changed : (content : Option (List ℕ)) → take l.number l.slots ++ changed l.name content (drop l.number l.slots) ≡ changed l.name content l.slots;
+      changed : (content : Option (List ℕ))
+          → take l.number l.slots ++ changed l.name content (drop l.number l.slots) ≡ changed l.name content l.slots;
     }

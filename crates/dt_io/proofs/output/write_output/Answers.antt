@@ -8,7 +8,8 @@ returns-in-Err g c =
     let writes = c.in-Err.ensures.writes in
     record {
       all = tt;
-      part = part_file _ _ _ _ _ c.in_ok-create.ensures.files writes.part (ap (λ (b : BesideFile). b.others) writes.only.rest);
+      part = part_file _ _ _ _ _ c.in_ok-create.ensures.files writes.part
+          (ap (λ (b : BesideFile). b.others) writes.only.rest);
       cause = search rules;
       only = search rules;
     }

@@ -6,4 +6,5 @@ stop_of-requires c = file_within c.args.place c.args.bytes.items c.in-Err.fault 
 
 pub returns-in-Err-clause-stop : goal.returns-in-Err-clause-stop
 returns-in-Err-clause-stop c =
-    file_refused c.args.width c.args.names.now c.args.place c.args.bytes.items c.in-Err.fault c.stop_of.result c.in-Err.ensures.broken c.stop_of.ensures
+    file_refused c.args.width c.args.names.now c.args.place c.args.bytes.items c.in-Err.fault c.stop_of.result
+    c.in-Err.ensures.broken c.stop_of.ensures

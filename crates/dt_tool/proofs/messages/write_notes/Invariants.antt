@@ -9,4 +9,5 @@ use Rattle.dt_tool.proofs.messages.write_notes.Given as goal
 abbrev pub invariant-loop-position : goal.invariant-loop-position
 invariant-loop-position g l =
     Puts (g.W.Out.state l.initial.out) (g.W.Out.state l.out)
-    (flat_map (said.entry_text (codes "note") rule.H2 l.inputs.names.now (texts_of l.inputs.sources.now)) (take l.position-index l.positions))
+    (flat_map (said.entry_text (codes "note") rule.H2 l.inputs.names.now (texts_of l.inputs.sources.now))
+    (take l.position-index l.positions))

@@ -5,9 +5,11 @@ use Rattle.dt_tool.proofs.run.run_gen.Goals as goal
 
 pub returns-in-Ok-clause-right : goal.returns-in-Ok-clause-right
 returns-in-Ok-clause-right g c =
-    right_text (asked_seen c.args.request) _ (g.D.Folder.seen c.generate.new.folder) c.in-Ok.ensures.only c.in-Ok.text.items c.in-Ok.ensures.answer
+    right_text (asked_seen c.args.request) _
+    (g.D.Folder.seen c.generate.new.folder) c.in-Ok.ensures.only c.in-Ok.text.items c.in-Ok.ensures.answer
     (rw c.as_slice.ensures.value at c.deliver.ensures.delivers)
 
 pub returns-in-Err-clause-right : goal.returns-in-Err-clause-right
 returns-in-Err-clause-right g c =
-    right_stop (asked_seen c.args.request) _ c.in-Err.ensures.only refl c.in-Err.stop c.in-Err.ensures.answer c.report_stop.ensures.outcome c.report_stop.ensures.said
+    right_stop (asked_seen c.args.request) _ c.in-Err.ensures.only refl c.in-Err.stop c.in-Err.ensures.answer
+    c.report_stop.ensures.outcome c.report_stop.ensures.said

@@ -9,5 +9,6 @@ invariant-loop-role l =
     record {
       place : l.place ≡ l.role-index + 1;
       operands : l.operands ≤ l.role-index;
-      rest : meant.first_fault l.verb l.place l.operands (map role_seen (drop l.role-index l.roles)) ≡ meant.first_fault l.verb 1 0 (map role_seen l.roles);
+      rest : meant.first_fault l.verb l.place l.operands
+          (map role_seen (drop l.role-index l.roles)) ≡ meant.first_fault l.verb 1 0 (map role_seen l.roles);
     }

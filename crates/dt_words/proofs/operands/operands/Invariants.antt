@@ -5,4 +5,5 @@ use Rattle.dt_words.specs.View.{role_seen}
 use Rattle.dt_words.proofs.operands.operands.Given as goal
 
 abbrev pub invariant-loop-role : goal.invariant-loop-role
-invariant-loop-role l = l.operands.items ++ meant.operands (map role_seen (drop l.role-index l.roles)) ≡ meant.operands (map role_seen l.roles)
+invariant-loop-role l = l.operands.items ++ meant.operands
+    (map role_seen (drop l.role-index l.roles)) ≡ meant.operands (map role_seen l.roles)

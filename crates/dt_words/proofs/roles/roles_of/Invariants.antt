@@ -8,6 +8,7 @@ abbrev pub invariant-loop-word : goal.invariant-loop-word
 invariant-loop-word l =
     record {
       count : length l.roles.items ≡ l.word-index;
-      seen : map role_seen l.roles.items ++ meant.roles_of (map row_seen l.rows) (next_seen l.next) (texts (drop l.word-index l.words))
+      seen : map role_seen l.roles.items ++ meant.roles_of (map row_seen l.rows) (next_seen l.next)
+          (texts (drop l.word-index l.words))
           ≡ meant.roles_of (map row_seen l.rows) meant.Anything (texts l.words);
     }

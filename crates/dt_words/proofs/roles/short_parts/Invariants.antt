@@ -5,4 +5,5 @@ use Rattle.dt_words.specs.View.{row_seen}
 use Rattle.dt_words.proofs.roles.short_parts.Given as goal
 
 abbrev pub invariant-loop-row : goal.invariant-loop-row
-invariant-loop-row l = meant.row_short (map row_seen (drop l.row-index l.rows)) l.word ≡ meant.row_short (map row_seen l.rows) l.word
+invariant-loop-row l = meant.row_short (map row_seen (drop l.row-index l.rows)) l.word ≡ meant.row_short
+    (map row_seen l.rows) l.word
