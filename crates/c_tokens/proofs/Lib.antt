@@ -1,0 +1,11 @@
+pub mod Reading
+pub mod Lexemes
+pub mod First
+pub mod Deep
+pub mod Found
+pub mod Whole
+pub mod Comments
+pub mod Longest
+pub mod Fronts
+pub mod Decimal
+pub mod Hexadecimal

@@ -1,0 +1,13 @@
+//! Laws of the tokens of a text. The function does nothing: its contract is the law.
+
+ghost use Rattle.std.specs.Prelude.{◌≡◌, ℕ, List, Some};
+ghost use Rattle.c_subset.specs.Tokens.{Token, tokens_of};
+ghost use Rattle.c_tokens.specs.Before.{IsLongestFront, tokens_before};
+
+/// The tokens before the first place that is none are those of the longest front of the text that has tokens. So they
+/// are all tokens where the text has some.
+#[tactic(auto, using(crate::proofs::Whole::all_before, crate::proofs::Longest::before_longest))]
+pub fn law_tokens_before()
+    ensures front { (text : List ℕ) → IsLongestFront text (tokens_before text) }
+    ensures all { (text : List ℕ) (tokens : List Token) → tokens_of text ≡ Some tokens → tokens_before text ≡ tokens }
+{}
