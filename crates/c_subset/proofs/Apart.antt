@@ -3,7 +3,7 @@ use Rattle.std.proofs.Common.{◌≡◌, ℕ, ◌<◌, List, [], ◌∷◌, ◌+
 use Rattle.std.proofs.Common.{◌∙◌, arith, length-append}
 use Rattle.std.specs.Prelude.{codes}
 use Rattle.std.proofs.lemmas.Bool.Decides.{nat_tests}
-use Rattle.c_subset.specs.Tokens.{Token, word, mark}
+use Rattle.c_tokens.specs.Tokens.{Token, word, mark}
 use Rattle.c_subset.specs.Programs.{Name}
 
 pub word_of : (v w : List ℕ) → word v ≡ word w → v ≡ w

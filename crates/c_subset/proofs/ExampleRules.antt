@@ -6,12 +6,13 @@ use Rattle.std.proofs.lemmas.List.Elements.{All-nil, All-cons}
 use Rattle.std.proofs.lemmas.List.Kept.{AllPairs-cons}
 use Rattle.dt_values.specs.Names.{IsName}
 use Rattle.dt_values.specs.declared.ctype.Member.{Member}
-use Rattle.c_subset.specs.ExprForms.{AssignmentKeeps}
+use Rattle.c_exprs.specs.Forms.{AssignmentKeeps}
 use Rattle.c_subset.specs.Programs.{Name}
 use Rattle.c_subset.specs.Keeps.{AllDiffer, IsTypeKept, SetKeeps, PatternNamed, ExtractionKeeps, KeepsRules}
 use Rattle.c_subset.proofs.Apart.{same_bytes, differ}
-use Rattle.c_subset.proofs.Bytes.{both_true}
+use Rattle.c_tokens.proofs.Bytes.{both_true}
 use Rattle.c_subset.specs.Examples.{nop_program, empty_program, arguments_program, branch_program, assigned_program}
+use Rattle.c_subset.specs.Examples.{in_extraction, in_decoder, placed_program}
 
 -- names are told apart by computing
 abbrev is_apart : Name → List Name → Bool
@@ -68,7 +69,11 @@ empty_keeps = record {
   union_sets_differ = all_differ [] refl;
   union_with_patterns = λ e. refl;
   body_keeps = tt;
+  body_cases = tt;
   body_below = tt;
+  load_fits = tt;
+  load_below = tt;
+  load_cases = tt;
   calls_with_patterns = λ e. tt;
 }
 
@@ -94,7 +99,11 @@ nop_keeps = record {
   union_sets_differ = all_differ (_ ∷ []) refl;
   union_with_patterns = λ e. cc;
   body_keeps = (((refl, refl), ((refl, refl), tt)), tt);
+  body_cases = ((tt, (tt, tt)), tt);
   body_below = ((lit< tt, lit< tt, (tt, (tt, tt))), tt);
+  load_fits = tt;
+  load_below = tt;
+  load_cases = tt;
   calls_with_patterns = λ e. cc;
 }
 
@@ -120,7 +129,11 @@ arguments_keep = record {
   union_sets_differ = all_differ [] refl;
   union_with_patterns = λ e. refl;
   body_keeps = tt;
+  body_cases = tt;
   body_below = tt;
+  load_fits = tt;
+  load_below = tt;
+  load_cases = tt;
   calls_with_patterns = λ e. tt;
 }
 
@@ -172,7 +185,11 @@ branch_keeps = record {
   union_sets_differ = all_differ (_ ∷ []) refl;
   union_with_patterns = λ e. cc;
   body_keeps = (((refl, refl), ((refl, refl), tt)), tt);
+  body_cases = ((tt, (tt, tt)), tt);
   body_below = ((lit< tt, lit< tt, (tt, (tt, tt))), tt);
+  load_fits = tt;
+  load_below = tt;
+  load_cases = tt;
   calls_with_patterns = λ e. cc;
 }
 
@@ -215,6 +232,51 @@ assigned_keeps = record {
       ),
     ),
   );
+  body_cases = (tt, (tt, (tt, (tt, (tt, tt)))));
   body_below = (tt, (tt, (tt, (tt, (tt, tt)))));
+  load_fits = tt;
+  load_below = tt;
+  load_cases = tt;
+  calls_with_patterns = λ e. cc;
+}
+
+pub placed_keep : KeepsRules (placed_program in_extraction in_decoder)
+placed_keep = record {
+  sets_keep = one SetKeeps _ (record {
+    named = refl;
+    inside = refl;
+    few = lit≤ tt;
+    arguments_named = two (λ (m : Member). IsName m.name) _ _ refl refl;
+    arguments_differ = all_differ (codes "a" ∷ codes "b" ∷ []) refl;
+    types = two (λ (m : Member). IsTypeKept m.ctype) _ _ tt tt;
+  });
+  sets_differ = all_differ (_ ∷ []) refl;
+  prefix_with_patterns = ((λ h e. cc), (λ h. refl));
+  prefix_named = refl;
+  patterns_named = one PatternNamed _ (record { name = refl; set = refl });
+  patterns_differ = all_differ (_ ∷ []) refl;
+  extracts_keep = one ExtractionKeeps _ (record {
+    format = refl;
+    set = refl;
+    assigns = one AssignmentKeeps _ (record {
+      argument = refl;
+      value = record { form = refl; names = (refl, lit< tt, lit< tt) };
+      place = refl;
+    });
+  });
+  formats_differ = all_differ (_ ∷ []) refl;
+  decoder_named = refl;
+  union_sets_named = one IsName _ refl;
+  union_sets_differ = all_differ (_ ∷ []) refl;
+  union_with_patterns = λ e. cc;
+  body_keeps = (
+    (refl, refl, record { form = refl; names = ((refl, refl), lit< tt, lit< tt) }, refl),
+    ((refl, refl), ((refl, refl), tt)),
+  );
+  body_cases = (tt, (tt, (tt, tt)));
+  body_below = (tt, (tt, (tt, tt)));
+  load_fits = tt;
+  load_below = tt;
+  load_cases = tt;
   calls_with_patterns = λ e. cc;
 }

@@ -2,9 +2,9 @@
 use Rattle.std.specs.Prelude.{◌≡◌, ℕ, true, false, List, [], ◌∷◌, ◌++◌, codes, negsuc, Some, None}
 use Rattle.dt_values.specs.declared.width.Width.TheVariants.{W32, W64}
 use Rattle.dt_values.specs.declared.ctype.CType.TheVariants.{Int, U64}
-use Rattle.c_subset.specs.Tokens.{word, mark, double_equals, arrow, tokens_of}
-use Rattle.c_subset.specs.Exprs.{Source, insn, argument, Term, constant, segment, deposit, cast, function, applied}
-use Rattle.c_subset.specs.Exprs.{Assignment}
+use Rattle.c_tokens.specs.Tokens.{word, mark, double_equals, arrow, tokens_of}
+use Rattle.c_exprs.specs.Exprs.{Source, insn, argument, Term, constant, segment, deposit, cast, function, applied}
+use Rattle.c_exprs.specs.Exprs.{Assignment}
 use Rattle.c_subset.specs.Programs.{Name, Stmts, on_mask, extract, assign, call, done, then, Program}
 use Rattle.c_subset.specs.Spells.{Spells}
 
@@ -24,6 +24,7 @@ nop_program = record {
   decoder_static = true;
   union_sets = codes "decode0" ∷ [];
   body = one_test_body 0xffffffff 0 (codes "decode_Fmt_0") (codes "nop") (codes "decode0");
+  load = None;
 }
 
 abbrev pub nop_text : List ℕ
@@ -41,6 +42,7 @@ empty_program = record {
   decoder_static = true;
   union_sets = [];
   body = done;
+  load = None;
 }
 
 abbrev pub empty_text : List ℕ
@@ -62,6 +64,7 @@ arguments_program = record {
   decoder_static = true;
   union_sets = [];
   body = done;
+  load = None;
 }
 
 abbrev pub arguments_text : List ℕ
@@ -94,6 +97,7 @@ branch_program = record {
   decoder_static = true;
   union_sets = codes "b" ∷ [];
   body = one_test_body 0x707f 0x63 (codes "b") (codes "beq") (codes "b");
+  load = None;
 }
 
 abbrev pub branch_text : List ℕ
@@ -136,6 +140,7 @@ assigned_program = record {
   decoder_static = true;
   union_sets = codes "s" ∷ [];
   body = assigned_body;
+  load = None;
 }
 
 abbrev pub assigned_text : List ℕ
@@ -168,6 +173,7 @@ placed_program extracted decoded = record {
       (then (extract (codes "x") (codes "s"))
       (then (call (codes "p") (codes "s"))
       done));
+  load = None;
 }
 
 abbrev pub placed_text : List ℕ → List ℕ → List ℕ
@@ -185,10 +191,8 @@ abbrev pub in_decoder : Source
 in_decoder = argument (Some (codes "s")) (codes "a")
 
 -- an extraction names no set, and the decoder names one
-pub record PlaceExamples : Type 0 where
-  pub in_place : Spells (placed_text (codes "a->a") (codes "u.f_s.a")) (placed_program in_extraction in_decoder)
-  pub set_in_extraction : (p : Program) → ¬ Spells (placed_text (codes "u.f_s.a") (codes "u.f_s.a")) p
-  pub no_set_in_decoder : (p : Program) → ¬ Spells (placed_text (codes "a->a") (codes "a->a")) p
+abbrev pub Placed : Type 0
+Placed = Spells (placed_text (codes "a->a") (codes "u.f_s.a")) (placed_program in_extraction in_decoder)
 
 abbrev pub Nop : Type 0
 Nop = Spells nop_text nop_program
@@ -204,12 +208,3 @@ Branch = Spells branch_text branch_program
 
 abbrev pub Assigned : Type 0
 Assigned = Spells assigned_text assigned_program
-
-pub record TokenExamples : Type 0 where
-  pub all_kinds : tokens_of (codes "a/* x **/b==c->d= ===/***/-\t1_Z") ≡ Some
-      (word (codes "a") ∷ word (codes "b") ∷ double_equals ∷ word (codes "c") ∷ arrow ∷ word
-      (codes "d") ∷ mark 61 ∷ double_equals ∷ mark 61 ∷ mark 45 ∷ word (codes "1_Z") ∷ [])
-  pub lone_slash : tokens_of (codes "a / b") ≡ None
-  pub open_comment : tokens_of (codes "a /* b") ≡ None
-  pub shortest_comment : tokens_of (codes "/*/ a") ≡ None
-  pub lone_above : tokens_of (codes "a > b") ≡ None

@@ -1,14 +1,41 @@
-//! The C subset: programs, and the texts that spell them.
+//! The C subset: programs, the texts that spell them, and their reader.
 #![tactic(auto)]
 
-pub mod expr;
+mod declarations;
+pub mod differ;
+mod extracts;
+pub mod fault;
+mod joined;
 pub mod laws;
+mod lines;
+pub mod load;
+mod loads;
+mod patterns;
 pub mod program;
+pub mod read;
+mod sets;
+pub mod sites;
+mod stmts;
+mod switches;
 
-pub use expr::{Expr, Input};
+pub use c_exprs::{Expr, Input};
+pub use fault::CFault;
+pub use load::LoadBlock;
 pub use program::{
     AssignList, Body, Extract, ExtractList, NameList, PatternList, Program, SetList, Stmt,
 };
+pub use read::read_c;
+pub use sites::call_sites;
 
 #[cfg(test)]
+mod program_tests;
+#[cfg(test)]
 mod tests;
+#[cfg(test)]
+mod tests_declarations;
+#[cfg(test)]
+mod tests_loads;
+#[cfg(test)]
+mod tests_read;
+#[cfg(test)]
+mod tests_stmts;

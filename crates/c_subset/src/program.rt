@@ -1,6 +1,7 @@
 //! Programs of the C subset.
 
-use crate::expr::Expr;
+use crate::load::LoadBlock;
+use c_exprs::Expr;
 use dt_fields::SetDef;
 use dt_values::{Items, Name, Width};
 
@@ -32,6 +33,8 @@ pub type ExtractList = Items<Extract>;
 pub enum Stmt {
     /// `if ((insn & MASK) == VALUE) { .. }`, with the mask and then the value.
     If(u64, u64, Vec<Stmt>),
+    /// `switch (insn & MASK) { .. }`, with the mask and then the cases: each value with the statements of its block.
+    Switch(u64, Vec<(u64, Vec<Stmt>)>),
     /// `F_extract_FORMAT(ctx, &u.f_SET, insn);`, with F the decoder's name.
     Extract { format: Name, set: Name },
     /// `u.f_SET.ARG = VALUE;`.
@@ -66,4 +69,6 @@ pub struct Program {
     pub union_sets: NameList,
     /// The decoder's statements.
     pub body: Body,
+    /// The load function's block, where there is a load function. It is static where the decoder is.
+    pub load: Option<LoadBlock>,
 }

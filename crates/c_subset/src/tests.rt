@@ -3,7 +3,7 @@
 ghost use Rattle.std.specs.Prelude.{◌≡◌, false, [], IfOk};
 ghost use Rattle.dt_values.specs.declared.ctype.CType.TheVariants.{Int};
 ghost use Rattle.c_subset.specs.Programs.{assign};
-ghost use Rattle.c_subset.specs.Exprs.{segment, deposit, function, applied};
+ghost use Rattle.c_exprs.specs.Exprs.{segment, deposit, function, applied};
 ghost use Rattle.c_subset.specs.Examples.{
   one_test_body,
   nop_program,
@@ -13,7 +13,8 @@ ghost use Rattle.c_subset.specs.Examples.{
   assigned_body,
   assigned_program,
 };
-ghost use Rattle.c_subset.specs.View.{source_of, term_of, stmt_of, stmts_of, extraction_of, program_of};
+ghost use Rattle.c_exprs.specs.View.{source_of, term_of};
+ghost use Rattle.c_subset.specs.View.{stmt_of, stmts_of, extraction_of, program_of};
 
 use crate::{
     AssignList, Body, Expr, Extract, ExtractList, Input, NameList, PatternList, Program, SetList,
@@ -89,6 +90,7 @@ fn one_pattern(alloc: Global) -> Result<Program, Fail>
         decoder_static: true,
         union_sets: NameList::of(vec![in alloc; set]?),
         body: Body::of(body),
+        load: None,
     })
 }
 
@@ -115,6 +117,7 @@ fn two_arguments(alloc: Global) -> Result<Program, Fail>
         decoder_static: true,
         union_sets: NameList::of(Vec::new(alloc)),
         body: Body::of(Vec::new(alloc)),
+        load: None,
     })
 }
 
@@ -146,7 +149,7 @@ fn answer_of(name: Name) -> Expr
     Expr::Function(name, None)
 }
 
-#[tactic(auto, using(crate::proofs::Views::view_applied))]
+#[tactic(auto, using(c_exprs::proofs::Views::view_applied))]
 /// What a function answers for an argument.
 fn answer_for(alloc: Global, name: Name, argument: Expr) -> Result<Expr, Fail>
     ensures { IfOk result (λ e. term_of e ≡ applied name (term_of argument)) }
@@ -198,6 +201,7 @@ fn one_branch(alloc: Global) -> Result<Program, Fail>
         decoder_static: true,
         union_sets: NameList::of(vec![in alloc; set]?),
         body: Body::of(body),
+        load: None,
     })
 }
 
@@ -273,6 +277,7 @@ fn four_arguments(alloc: Global) -> Result<Program, Fail>
         decoder_static: true,
         union_sets: NameList::of(vec![in alloc; set]?),
         body: Body::of(assigns_and_call(alloc)?),
+        load: None,
     })
 }
 
@@ -351,17 +356,17 @@ fn a_decoder_holds_its_assignments(rt: HostRuntime) -> Result<(), Fail> {
     let (set, f) = (name(b"s")?, name(b"f")?);
     let [
         Stmt::Assign {
-            value: Expr::Constant(-5),
+            value: Expr::Constant(-5, ..),
             ..
         },
         Stmt::Assign {
-            value: Expr::Function(second, None),
+            value: Expr::Function(second, None, ..),
             ..
         },
         Stmt::Assign {
             set: third_set,
             arg: third,
-            value: Expr::Function(last, Some(inner)),
+            value: Expr::Function(last, Some(inner), ..),
         },
         Stmt::Extract { .. },
         Stmt::Call { .. },

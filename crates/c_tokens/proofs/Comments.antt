@@ -1,12 +1,12 @@
 -- Where a comment may begin, or goes on, the token before it has by_ends.
 use Rattle.std.proofs.Common.{◌≡◌, ℕ, List, [], ◌∷◌, Option, Some, None, option_map, ◌⊎◌, inl, inr, refl, sym, ap, ◌∙◌}
 use Rattle.std.proofs.Common.{subst}
-use Rattle.c_subset.specs.Tokens.{Token, word, mark, Kind, letter, space, star, slash, equals, dash, above, single}
-use Rattle.c_subset.specs.Tokens.{other, Mode, between, in_word, after_equals, after_dash, after_slash, in_comment}
-use Rattle.c_subset.specs.Tokens.{after_star, Read, put, begin, in_word_step, after_equals_step, after_dash_step}
-use Rattle.c_subset.specs.Tokens.{after_slash_step, step, ends}
-use Rattle.c_subset.proofs.Bytes.{letter_or_not, star_or_not, equals_or_not, above_or_not}
-use Rattle.c_subset.proofs.Ends.{word_step, equals_step, dash_step, slash_step}
+use Rattle.c_tokens.specs.Tokens.{Token, word, mark, Kind, letter, space, star, slash, equals, dash, above, single}
+use Rattle.c_tokens.specs.Tokens.{other, Mode, between, in_word, after_equals, after_dash, after_slash, in_comment}
+use Rattle.c_tokens.specs.Tokens.{after_star, Read, put, begin, in_word_step, after_equals_step, after_dash_step}
+use Rattle.c_tokens.specs.Tokens.{after_slash_step, step, ends}
+use Rattle.c_tokens.proofs.Bytes.{letter_or_not, star_or_not, equals_or_not, above_or_not}
+use Rattle.c_tokens.proofs.Ends.{word_step, equals_step, dash_step, slash_step}
 use Rattle.c_tokens.specs.Before.{last_token}
 
 same_read : (s r : Read) → Some s ≡ Some r → s ≡ r

@@ -3,7 +3,7 @@ use Rattle.std.proofs.Common.{◌≡◌, ℕ, true, false, ◌<◌, ◌≤◌, L
 use Rattle.std.proofs.Common.{None, length, refl, sym, ap, ◌∙◌, subst, arith, length-append}
 use Rattle.std.specs.Prelude.{◌↔◌, IsTrue, nat_lt, if◌then◌else◌}
 use Rattle.std.proofs.lemmas.Bool.Decides.{nat_tests}
-use Rattle.c_subset.specs.Tokens.{Token, word, mark, double_equals, arrow, between}
+use Rattle.c_tokens.specs.Tokens.{Token, word, mark, double_equals, arrow, between}
 use Rattle.c_tokens.specs.Before.{before, tokens_before}
 use Rattle.c_tokens.specs.Reading.{Reading, reading, no_token, with_first}
 use Rattle.c_tokens.specs.Depth.{most_open, open_unless_deep, open_after, open_behind, IsDeep, IsTooDeep}

@@ -1,10 +1,10 @@
 -- What a text is read as by its first byte.
 use Rattle.std.proofs.Common.{◌≡◌, ℕ, List, ◌∷◌, Bool, true, false, Some, None, refl, sym, ap, ◌∙◌}
 use Rattle.dt_values.specs.Names.{is_name_byte}
-use Rattle.c_subset.specs.Bytes.{is_white, is_mark}
-use Rattle.c_subset.specs.Tokens.{mark, Kind, letter, space, star, slash, equals, dash, above, single, other, kind}
-use Rattle.c_subset.specs.Tokens.{between, after_equals, after_dash, after_slash, begin}
-use Rattle.c_subset.proofs.Bytes.{Says, of_kind, white_kind, mark_begins}
+use Rattle.c_tokens.specs.Bytes.{is_white, is_mark}
+use Rattle.c_tokens.specs.Tokens.{mark, Kind, letter, space, star, slash, equals, dash, above, single, other, kind}
+use Rattle.c_tokens.specs.Tokens.{between, after_equals, after_dash, after_slash, begin}
+use Rattle.c_tokens.proofs.Bytes.{Says, of_kind, white_kind, mark_begins}
 use Rattle.c_tokens.specs.Reading.{Reading, reading, no_token, with_first}
 use Rattle.c_tokens.proofs.Reading.{passes, gives, stops}
 

@@ -1,8 +1,8 @@
 -- The tokens that were found, and those behind them.
 use Rattle.std.proofs.Common.{◌≡◌, ℕ, List, [], ◌∷◌, ◌++◌, Option, Some, None, option_map, refl, sym, ap, ◌∙◌}
 use Rattle.std.proofs.Common.{append-nil, length, arith}
-use Rattle.c_subset.specs.Tokens.{Token, between, read, tokens_of}
-use Rattle.c_subset.proofs.Seeing.{put_more}
+use Rattle.c_tokens.specs.Tokens.{Token, between, read, tokens_of}
+use Rattle.c_tokens.proofs.Seeing.{put_more}
 use Rattle.c_tokens.specs.Reading.{Reading, reading, no_token, with_first, as_list}
 
 -- the tokens of a text are those that were found and those of the rest

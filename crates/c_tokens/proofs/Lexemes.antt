@@ -6,13 +6,13 @@ use Rattle.std.specs.Prelude.{IsTrue}
 use Rattle.std.proofs.lemmas.Bool.Decides.{nat_tests}
 use Rattle.std.proofs.lemmas.List.{take_more, drop_all, take-append-drop}
 use Rattle.dt_values.specs.Names.{is_name_byte}
-use Rattle.c_subset.specs.Bytes.{Letters}
-use Rattle.c_subset.specs.Lexed.{Begins}
-use Rattle.c_subset.specs.Tokens.{word, mark, double_equals, arrow, letter, star, slash, equals, above, kind, Mode}
-use Rattle.c_subset.specs.Tokens.{between, in_word, after_equals, after_dash, after_slash, in_comment, after_star}
-use Rattle.c_subset.specs.Tokens.{begin, in_word_step, in_comment_step, after_star_step, read}
-use Rattle.c_subset.proofs.Bytes.{of_kind, letters_first, letters_rest, letters-append, letters-cons}
-use Rattle.c_subset.proofs.Ends.{word_step, equals_step, dash_step, slash_step, comment_step, star_step}
+use Rattle.c_tokens.specs.Bytes.{Letters}
+use Rattle.c_tokens.specs.Lexed.{Begins}
+use Rattle.c_tokens.specs.Tokens.{word, mark, double_equals, arrow, letter, star, slash, equals, above, kind, Mode}
+use Rattle.c_tokens.specs.Tokens.{between, in_word, after_equals, after_dash, after_slash, in_comment, after_star}
+use Rattle.c_tokens.specs.Tokens.{begin, in_word_step, in_comment_step, after_star_step, read}
+use Rattle.c_tokens.proofs.Bytes.{of_kind, letters_first, letters_rest, letters-append, letters-cons}
+use Rattle.c_tokens.proofs.Ends.{word_step, equals_step, dash_step, slash_step, comment_step, star_step}
 use Rattle.c_tokens.specs.Before.{before}
 use Rattle.c_tokens.specs.Reading.{reading, no_token, with_first}
 use Rattle.c_tokens.proofs.Reading.{passes, gives, stops, pends}

@@ -1,3 +1,10 @@
+pub mod Bytes
+pub mod Seeing
+pub mod Ends
+pub mod Lexing
+pub mod ByRules
+pub mod ToRules
+pub mod WordBytes
 pub mod Reading
 pub mod Lexemes
 pub mod First
@@ -9,3 +16,8 @@ pub mod Longest
 pub mod Fronts
 pub mod Decimal
 pub mod Hexadecimal
+pub mod Exact
+pub mod Runs
+pub mod WordsRead
+pub mod Loops
+pub mod Fewer

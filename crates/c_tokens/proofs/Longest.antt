@@ -2,9 +2,9 @@
 use Rattle.std.proofs.Common.{◌≡◌, ℕ, List, [], ◌∷◌, ◌++◌, Option, Some, None, option_map, ◌⊎◌, inl, inr, true, false}
 use Rattle.std.proofs.Common.{refl, sym, ap, ◌∙◌, subst, append-nil}
 use Rattle.std.specs.Prelude.{IsSome, is_some}
-use Rattle.c_subset.specs.Tokens.{Token, kind, Mode, between, in_word, after_equals, after_dash, after_slash}
-use Rattle.c_subset.specs.Tokens.{in_comment, after_star, Read, step, and_then, read, ends, whole}
-use Rattle.c_subset.proofs.Seeing.{put_ends}
+use Rattle.c_tokens.specs.Tokens.{Token, kind, Mode, between, in_word, after_equals, after_dash, after_slash}
+use Rattle.c_tokens.specs.Tokens.{in_comment, after_star, Read, step, and_then, read, ends, whole}
+use Rattle.c_tokens.proofs.Seeing.{put_ends}
 use Rattle.c_tokens.specs.Before.{last_token, go_on, before, tokens_before, IsLongestFront}
 use Rattle.c_tokens.proofs.Comments.{comment_begins}
 

@@ -1,7 +1,7 @@
 -- What is read of a text from its first byte on.
 use Rattle.std.proofs.Common.{◌≡◌, ℕ, List, [], ◌∷◌, Option, Some, None, option_map, refl, ap, ◌∙◌}
-use Rattle.c_subset.specs.Tokens.{Token, kind, Mode, between, Read, put, begin, step, and_then, read, whole}
-use Rattle.c_subset.proofs.Seeing.{put_none, put_ends, put-and_then}
+use Rattle.c_tokens.specs.Tokens.{Token, kind, Mode, between, Read, put, begin, step, and_then, read, whole}
+use Rattle.c_tokens.proofs.Seeing.{put_none, put_ends, put-and_then}
 use Rattle.c_tokens.specs.Before.{last_token, go_on, before}
 use Rattle.c_tokens.specs.Reading.{reading, no_token, with_first}
 

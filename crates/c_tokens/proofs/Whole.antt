@@ -1,8 +1,8 @@
 -- All tokens of a text that has some stand before the first place that is none.
 use Rattle.std.proofs.Common.{◌≡◌, ℕ, List, [], ◌∷◌, ◌++◌, Option, Some, None, option_map, refl, sym, ap, ◌∙◌}
-use Rattle.c_subset.specs.Tokens.{Token, kind, Mode, between, in_word, after_equals, after_dash, after_slash}
-use Rattle.c_subset.specs.Tokens.{in_comment, after_star, Read, step, and_then, read, ends, whole, tokens_of}
-use Rattle.c_subset.proofs.Seeing.{put_ends}
+use Rattle.c_tokens.specs.Tokens.{Token, kind, Mode, between, in_word, after_equals, after_dash, after_slash}
+use Rattle.c_tokens.specs.Tokens.{in_comment, after_star, Read, step, and_then, read, ends, whole, tokens_of}
+use Rattle.c_tokens.proofs.Seeing.{put_ends}
 use Rattle.c_tokens.specs.Before.{last_token, go_on, before, tokens_before}
 
 some_same : {A : Type 0} (x y : A) → Some x ≡ Some y → x ≡ y

@@ -1,8 +1,8 @@
 -- The tokens of a text before the first place where none can be (C17, 6.4; the C subset, docs/C_SUBSET.md). A byte
 -- outside the subset is such a place, and so is a comment that isn't closed.
 use Rattle.std.specs.Prelude.{◌≡◌, ℕ, List, [], ◌∷◌, ◌++◌, Option, Some, None, IsSome}
-use Rattle.c_subset.specs.Tokens.{Token, word, mark, kind, Mode, between, in_word, after_equals, after_dash}
-use Rattle.c_subset.specs.Tokens.{after_slash, in_comment, after_star, Read, step, tokens_of}
+use Rattle.c_tokens.specs.Tokens.{Token, word, mark, kind, Mode, between, in_word, after_equals, after_dash}
+use Rattle.c_tokens.specs.Tokens.{after_slash, in_comment, after_star, Read, step, tokens_of}
 
 -- the token that ends where the next byte doesn't belong to it; a comment that was begun is none
 abbrev pub last_token : Mode → List Token

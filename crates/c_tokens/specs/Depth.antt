@@ -1,7 +1,7 @@
 -- How deep the braces of a text nest. A closing brace stands inside its own pair, an opening one outside of it.
 use Rattle.std.specs.Prelude.{◌≡◌, ℕ, ◌<◌, ◌+◌, ◌-◌, ◌==◌, if◌then◌else◌, nat_lt, List, [], ◌∷◌, ◌++◌, Option, Some}
 use Rattle.std.specs.Prelude.{None}
-use Rattle.c_subset.specs.Tokens.{Token, word, mark, double_equals, arrow}
+use Rattle.c_tokens.specs.Tokens.{Token, word, mark, double_equals, arrow}
 
 -- the most braces that may be open around a token
 abbrev pub most_open : ℕ

@@ -1,5 +1,14 @@
+pub mod Bytes
+pub mod Tokens
+pub mod Lexed
 pub mod Before
 pub mod Reading
 pub mod Depth
 pub mod View
 pub mod Words
+pub mod Marks
+pub mod Examples
+pub mod Parsing
+pub mod WordParsing
+pub mod Front
+pub mod Gives

@@ -1,6 +1,6 @@
 -- What is read of a text from a mode on, and what stands first in it.
 use Rattle.std.specs.Prelude.{◌≡◌, ℕ, List, [], ◌∷◌, Option, Some, None, option_map}
-use Rattle.c_subset.specs.Tokens.{Token, Mode, between, read, whole}
+use Rattle.c_tokens.specs.Tokens.{Token, Mode, between, read, whole}
 use Rattle.c_tokens.specs.Before.{before}
 
 -- the tokens before the first place that is none, and all tokens where there is no such place

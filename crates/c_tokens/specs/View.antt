@@ -1,7 +1,7 @@
 -- The tokens that the code's tokens stand for.
 use Rattle.std.specs.Prelude.{ℕ, List, map, Option, None, option_map, MatchOption}
 use Rattle.std.specs.Borrow.{Bor}
-use Rattle.c_subset.specs.Tokens.{Mode, Token, word, mark, double_equals, arrow}
+use Rattle.c_tokens.specs.Tokens.{Mode, Token, word, mark, double_equals, arrow}
 use Rattle.c_tokens.specs.Reading.{ReadsAs, ReadsNothing}
 use Rattle.c_tokens.specs.declared.token.Token.{Token as Made}
 use Rattle.c_tokens.specs.declared.token.Token.TheVariants.{Word, Mark, DoubleEquals, Arrow}

@@ -2,9 +2,9 @@
 
 ghost use Rattle.std.specs.Prelude.{◌≡◌, ◌<◌, ◌≤◌, ◌∷◌, length, take, drop, IsTrue, MatchOption, IfSome, false};
 ghost use Rattle.dt_values.specs.Names.{is_name_byte};
-ghost use Rattle.c_subset.specs.Bytes.{is_white, is_mark, Letters};
-ghost use Rattle.c_subset.specs.Lexed.{Begins};
-ghost use Rattle.c_subset.specs.Tokens.{between, after_equals, after_dash, after_slash, in_comment};
+ghost use Rattle.c_tokens.specs.Bytes.{is_white, is_mark, Letters};
+ghost use Rattle.c_tokens.specs.Lexed.{Begins};
+ghost use Rattle.c_tokens.specs.Tokens.{between, after_equals, after_dash, after_slash, in_comment};
 ghost use Rattle.c_tokens.specs.Reading.{ReadsAs};
 ghost use Rattle.c_tokens.specs.View.{lexeme_seen, IsFirst, IsRest};
 

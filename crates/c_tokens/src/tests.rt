@@ -1,6 +1,6 @@
 //! Texts with their tokens, after the rules of docs/C_SUBSET.md, texts that nest deep, and what words spell.
 
-use crate::{Token, TokenFault, decimal_of, hexadecimal_of, is_too_deep, name_behind, tokens};
+use crate::{ReadFault, Token, decimal_of, hexadecimal_of, is_too_deep, name_behind, tokens};
 use dt_values::Width;
 use std::alloc::{AllocError, Global};
 use std::test::Fail;
@@ -24,8 +24,8 @@ fn summary(alloc: Global, text: &[u8]) -> Result<String, AllocError> {
                 shown.push(' ')?;
             }
         }
-        Err(TokenFault::NotTokens) => shown.push_str("none")?,
-        Err(TokenFault::NoMemory) => return Err(AllocError),
+        Err(ReadFault::NotSubset) => shown.push_str("none")?,
+        Err(ReadFault::NoMemory) => return Err(AllocError),
     }
     Ok(shown)
 }

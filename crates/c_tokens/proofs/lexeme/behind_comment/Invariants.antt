@@ -1,6 +1,6 @@
 -- The text goes on inside of the comment, behind a star or not.
 use Rattle.std.proofs.Common.{◌≡◌, ◌≤◌, ◌-◌, drop, length}
-use Rattle.c_subset.specs.Tokens.{in_comment}
+use Rattle.c_tokens.specs.Tokens.{in_comment}
 use Rattle.c_tokens.specs.Reading.{reading}
 use Rattle.c_tokens.proofs.Lexemes.{comment_mode}
 use Rattle.c_tokens.proofs.lexeme.behind_comment.Given as goal

@@ -1,6 +1,6 @@
 -- Name bytes stand before the place.
 use Rattle.std.proofs.Common.{◌≤◌, ◌-◌, length, take}
-use Rattle.c_subset.specs.Bytes.{Letters}
+use Rattle.c_tokens.specs.Bytes.{Letters}
 use Rattle.c_tokens.proofs.lexeme.word_length.Given as goal
 
 abbrev pub invariant-loop-at : goal.invariant-loop-at

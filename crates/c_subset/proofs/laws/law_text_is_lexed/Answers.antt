@@ -1,9 +1,0 @@
-use Rattle.c_subset.proofs.ByRules.{read_by_rules}
-use Rattle.c_subset.proofs.ToRules.{lexed_by_rules}
-use Rattle.c_subset.proofs.laws.law_text_is_lexed.Goals as goal
-
-pub returns-clause-read : goal.returns-clause-read
-returns-clause-read c = λ text tokens h. read_by_rules h
-
-pub returns-clause-lexed : goal.returns-clause-lexed
-returns-clause-lexed c = lexed_by_rules

@@ -1,0 +1,10 @@
+use Rattle.std.proofs.Common.{length}
+use Rattle.c_subset.specs.SetParsing.{is_inside, member_at}
+use Rattle.c_tokens.proofs.Loops.{Reading}
+use Rattle.c_subset.proofs.sets.members_at.Given as goal
+
+abbrev pub invariant-more : goal.invariant-more
+invariant-more l = Reading is_inside member_at l.initial.tokens l.members.items l.tokens
+
+abbrev pub decreases-more : goal.decreases-more
+decreases-more l = length l.tokens
