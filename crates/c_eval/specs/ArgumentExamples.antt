@@ -1,10 +1,10 @@
 -- Programs with values whose runs are written out.
-use Rattle.std.specs.Prelude.{ℕ, true, false, List, [], ◌∷◌, ℤ, pos, Some, codes}
+use Rattle.std.specs.Prelude.{ℕ, true, false, List, [], ◌∷◌, ℤ, pos, Some, None, codes}
 use Rattle.dt_values.specs.declared.ctype.CType.TheVariants.{Int, I8}
 use Rattle.dt_values.specs.declared.width.Width.{Width}
 use Rattle.dt_values.specs.declared.width.Width.TheVariants.{W32}
 use Rattle.dt_fields.specs.declared.set.SetDef.{SetDef}
-use Rattle.c_subset.specs.Exprs.{argument, Term, constant, segment, function, Assignment}
+use Rattle.c_exprs.specs.Exprs.{argument, Term, constant, segment, function, Assignment}
 use Rattle.c_subset.specs.Programs.{Name, Stmt, extract, assign, call, Extraction, Program}
 use Rattle.c_subset.specs.View.{stmts_from}
 use Rattle.dt_match.specs.Examples.{imm, member_of, rd, size_name}
@@ -128,6 +128,7 @@ program_of width statements = record {
   decoder_static = true;
   union_sets = load ∷ jump ∷ [];
   body = stmts_from statements;
+  load = None;
 }
 
 -- in the word bits 7 to 11 are 21, and bits 24 to 31 are 255

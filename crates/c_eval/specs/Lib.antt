@@ -1,5 +1,15 @@
 pub mod Meaning
+pub mod Places
 pub mod Runs
+pub mod Lists
+pub mod Conditions
+pub mod LiveSet
+pub mod Turns
+pub mod Loads
+pub mod LoadView
 pub mod Examples
 pub mod ExprExamples
 pub mod ArgumentExamples
+pub mod SwitchExamples
+pub mod LoadExamples
+pub mod ScriptRuns

@@ -8,8 +8,9 @@ use Rattle.dt_values.specs.declared.ctype.CType.{CType}
 use Rattle.dt_values.specs.declared.ctype.Member.{Member}
 use Rattle.dt_fields.specs.SetsByName.{set_at}
 use Rattle.dt_fields.specs.declared.set.SetDef.{SetDef}
-use Rattle.c_subset.specs.Exprs.{Term, Assignment}
-use Rattle.c_subset.specs.Programs.{Name, Stmt, on_mask, extract, assign, call, Stmts, done, then, Extraction, Program}
+use Rattle.c_exprs.specs.Exprs.{Term, Assignment}
+use Rattle.c_subset.specs.Programs.{Name, Stmt, on_mask, switch, extract, assign, call, Stmts, done, then, Cases}
+use Rattle.c_subset.specs.Programs.{no_case, or_case, Extraction, Program}
 use Rattle.dt_match.specs.Arguments.{type_in}
 use Rattle.dt_match.specs.FieldValues.{Answers}
 use Rattle.dt_match.specs.Hosts.{Call, Host}
@@ -101,7 +102,7 @@ all_assigned bits word answer members (a ∷ more) held =
     option_and_then (all_assigned bits word answer members more)
     (assigned (place_in_extraction bits word answer held) (type_in members a.argument) a.argument a.value held)
 
--- an `if` counts one test
+-- an `if`, or a `switch`, counts one test
 abbrev pub after_test : {S : Type 0} → Standing S → Standing S
 after_test r = record { live = r.live; calls = r.calls; tests = r.tests + 1; state = r.state }
 
@@ -179,6 +180,8 @@ abbrev mutual
   pub run_one : {S : Type 0} → Program → List SetDef → Host S → ℕ → Stmt → Standing S → Turn S
   run_one program outside host word (on_mask mask value block) r =
       run_block (bit_and word mask == value) (run_all program outside host word block) (after_test r)
+  run_one program outside host word (switch mask cases) r =
+      run_first program outside host word (bit_and word mask) cases (after_test r)
   run_one program outside host word (extract format set) r =
       make_live set (held_after_extraction program outside host word format set r) r
   run_one program outside host word (assign set name e) r =
@@ -191,6 +194,13 @@ abbrev mutual
   run_all program outside host word done r = going r
   run_all program outside host word (then s ss) r =
       go_on (run_one program outside host word s r) (run_all program outside host word ss)
+
+  -- the block of the first case of this value, if there is one
+  pub run_first : {S : Type 0} → Program → List SetDef → Host S → ℕ → ℕ → Cases → Standing S → Turn S
+  run_first program outside host word value no_case r = going r
+  run_first program outside host word value (or_case v block cases) r =
+      cond (value == v) (run_all program outside host word block r)
+      (run_first program outside host word value cases r)
 
 -- a run as a whole: its calls, in order, how it ended, the number of tests, and the host's last state
 pub record Run (S : Type 0) : Type 0 where

@@ -1,9 +1,9 @@
 //! Examples of the definitions: public functions that do nothing, whose contracts state them. `negsuc n` is -(n + 1).
 
 ghost use Rattle.std.specs.Prelude.{◌≡◌, true, false, [], ◌∷◌, pos, negsuc, Some, None};
-ghost use Rattle.dt_values.specs.declared.width.Width.TheVariants.{W16, W64};
+ghost use Rattle.dt_values.specs.declared.width.Width.TheVariants.{W16, W32, W64};
 ghost use Rattle.c_subset.specs.Examples.{nop_program};
-ghost use Rattle.c_subset.specs.Exprs.{constant, deposit, cast, function, applied};
+ghost use Rattle.c_exprs.specs.Exprs.{constant, deposit, cast, function, applied};
 ghost use Rattle.c_subset.specs.Programs.{done, call, extract};
 ghost use Rattle.dt_match.specs.Examples.{imm, rd, shift_name, size_name};
 ghost use Rattle.c_eval.specs.ArgumentExamples.{both, imm_first, imm_last, names_set, rd_alone, to_unknown};
@@ -16,6 +16,10 @@ ghost use Rattle.c_eval.specs.Examples.{other_extraction, other_program, other_s
 ghost use Rattle.c_eval.specs.Examples.{run_with, scripted_run};
 ghost use Rattle.c_eval.specs.ExprExamples.{deposit_at, sign_above_four, value_on};
 ghost use Rattle.c_eval.specs.ExprExamples.{extract_bits, extract_low, no_bits, sextract_bits, sextract_low};
+ghost use Rattle.c_subset.specs.Programs.{or_load_case};
+ghost use Rattle.c_eval.specs.LoadExamples.{bytes_alone, eight_bytes, loaded_by, loads_none, one_case, two_bytes_then};
+ghost use Rattle.c_eval.specs.Loads.{load_of};
+ghost use Rattle.c_eval.specs.SwitchExamples.{calling, run_before_call, run_nested, run_switch, sticking, two_cases};
 ghost use Rattle.c_eval.specs.Runs.{ended_true, ended_false, stuck};
 
 /// Runs with their calls, their end, the number of tests and that of calls.
@@ -127,4 +131,40 @@ pub fn examples_of_stuck_runs()
     ensures no_bits { run_with_32 (set_to rd no_bits ∷ []) ≡ stuck_run }
     ensures bit_32_at_32 { run_with_32 (set_to rd (extract_bits 32 1) ∷ []) ≡ stuck_run }
     ensures bit_64_at_64 { run_at_width W64 (set_to rd (extract_bits 64 1) ∷ []) ≡ stuck_run }
+{}
+
+/// A switch runs the block of its first case that fits, and counts one test.
+pub fn examples_of_switches()
+    ensures first_case { run_switch (two_cases 0 calling 1 done) 4 ≡ run_with (nop_call ∷ []) ended_true 1 1 }
+    ensures second_case { run_switch (two_cases 0 calling 1 done) 5 ≡ run_with [] ended_false 1 0 }
+    ensures second_case_calls { run_switch (two_cases 0 done 1 calling) 5 ≡ run_with (nop_call ∷ []) ended_true 1 1 }
+    ensures no_case { run_switch (two_cases 0 calling 1 calling) 6 ≡ run_with [] ended_false 1 0 }
+    ensures goes_on { run_before_call (two_cases 0 sticking 1 sticking) 6 ≡ run_with (nop_call ∷ []) ended_true 1 1 }
+    ensures one_value { run_switch (two_cases 0 calling 0 sticking) 0 ≡ run_with (nop_call ∷ []) ended_true 1 1 }
+    ensures one_value_stuck { run_switch (two_cases 0 sticking 0 calling) 0 ≡ run_with [] stuck 1 0 }
+    ensures nested { run_nested (two_cases 0 calling 1 done) 4 ≡ run_with (nop_call ∷ []) ended_true 2 1 }
+    ensures not_nested { run_nested (two_cases 0 calling 1 done) 0 ≡ run_with [] ended_false 1 0 }
+{}
+
+/// What load functions load of the bytes 1 to 8: the word, and how many bytes.
+pub fn examples_of_loads()
+    ensures one_load { loaded_by W32 (bytes_alone 0 2) ≡ Some (0x01020000, 2) }
+    ensures all_of_16 { loaded_by W16 (bytes_alone 0 2) ≡ Some (0x0102, 2) }
+    ensures all_of_64 { loaded_by W64 (bytes_alone 0 8) ≡ Some (0x0102030405060708, 8) }
+    ensures no_load { loaded_by W32 loads_none ≡ Some (0, 0) }
+    ensures two_loads { loaded_by W32 (two_bytes_then 0xff000000 (one_case 0x01000000 (bytes_alone 2 4)))
+        ≡ Some (0x01020304, 4) }
+    ensures no_case { loaded_by W32 (two_bytes_then 0xff000000 (one_case 0x02000000 (bytes_alone 2 4)))
+        ≡ Some (0x01020000, 2) }
+    ensures first_case { loaded_by W32 (two_bytes_then 0 (or_load_case 0 loads_none (one_case 0 (bytes_alone 2 4))))
+        ≡ Some (0x01020000, 2) }
+    ensures not_from_start { loaded_by W32 (bytes_alone 1 2) ≡ None }
+    ensures from_again { loaded_by W32 (two_bytes_then 0 (one_case 0 (bytes_alone 0 4))) ≡ None }
+    ensures with_gap { loaded_by W32 (two_bytes_then 0 (one_case 0 (bytes_alone 3 4))) ≡ None }
+    ensures nothing { loaded_by W32 (bytes_alone 0 0) ≡ None }
+    ensures backwards { loaded_by W32 (two_bytes_then 0 (one_case 0 (bytes_alone 2 1))) ≡ None }
+    ensures past_32 { loaded_by W32 (bytes_alone 0 5) ≡ None }
+    ensures past_16 { loaded_by W16 (bytes_alone 0 3) ≡ None }
+    ensures past_64 { loaded_by W64 (bytes_alone 0 9) ≡ None }
+    ensures no_function { load_of nop_program eight_bytes ≡ None }
 {}

@@ -18,7 +18,7 @@ use Rattle.dt_fields.specs.declared.segment.Segment.{Segment}
 use Rattle.dt_fields.specs.declared.segment.Segment.TheVariants.{Bits, Named}
 use Rattle.dt_scope.specs.declared.value.FieldValue.{FieldValue}
 use Rattle.dt_scope.specs.declared.value.FieldValue.TheVariants.{Field, Constant}
-use Rattle.c_subset.specs.Exprs.{Term, deposit, cast}
+use Rattle.c_exprs.specs.Exprs.{Term, deposit, cast}
 use Rattle.dt_match.specs.Arguments.{value_of}
 use Rattle.dt_match.specs.FieldValues.{has_sign, segment_bits, joined, raw_value, answered, field_value}
 use Rattle.c_eval.specs.Meaning.{Place, helper_bits, lies_in, guarded, extracted, extract_value, deposit_value}

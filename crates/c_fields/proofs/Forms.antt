@@ -17,8 +17,8 @@ use Rattle.dt_fields.specs.declared.segment.Segment.{Segment}
 use Rattle.dt_fields.specs.declared.segment.Segment.TheVariants.{Bits, Named}
 use Rattle.dt_scope.specs.declared.value.FieldValue.{FieldValue}
 use Rattle.dt_scope.specs.declared.value.FieldValue.TheVariants.{Field, Constant}
-use Rattle.c_subset.specs.Exprs.{Term, cast}
-use Rattle.c_subset.specs.ExprForms.{is_bits, is_function, SourceNamed, StandsIn, TermKeeps}
+use Rattle.c_exprs.specs.Exprs.{Term, cast}
+use Rattle.c_exprs.specs.Forms.{is_bits, is_function, SourceNamed, StandsIn, TermKeeps}
 use Rattle.dt_match.specs.FieldValues.{has_sign}
 use Rattle.c_eval.specs.Meaning.{helper_bits}
 use Rattle.c_fields.specs.Values.{AreNamed, HasRoom, KeepsValueRules, IsValueNamed}

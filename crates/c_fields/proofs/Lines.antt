@@ -6,16 +6,16 @@ use Rattle.std.specs.Prelude.{codes, decimal}
 use Rattle.dt_values.specs.Names.{IsName}
 use Rattle.dt_values.specs.declared.width.Width.{Width}
 use Rattle.dt_values.specs.declared.width.Width.TheVariants.{W16, W32, W64}
-use Rattle.c_subset.specs.Bytes.{IsWord}
-use Rattle.c_subset.specs.Exprs.{Source, insn, argument, Term, constant, segment, deposit, cast, function, applied}
-use Rattle.c_subset.specs.ExprForms.{ArgumentNamed, SourceNamed, ConstantFits, HasNames}
-use Rattle.c_subset.specs.ExprSpelling.{helper_digits, extract_word, argument_spelled, source_spelled, constant_spelled}
-use Rattle.c_subset.specs.ExprSpelling.{expr_spelled, assign_spelled}
-use Rattle.c_subset.specs.Marks.{open_round, close_round, semicolon, comma, minus, equals, dot, f_}
-use Rattle.c_subset.specs.Tokens.{word, arrow, read, tokens_of}
-use Rattle.c_subset.proofs.Lexing.{Lexes, line_lexes, lexes_append, tokens_from}
-use Rattle.c_subset.proofs.Seeing.{see}
-use Rattle.c_subset.proofs.Words.{decimal_word_is, name_is_word}
+use Rattle.c_tokens.specs.Bytes.{IsWord}
+use Rattle.c_exprs.specs.Exprs.{Source, insn, argument, Term, constant, segment, deposit, cast, function, applied}
+use Rattle.c_exprs.specs.Forms.{ArgumentNamed, SourceNamed, ConstantFits, HasNames}
+use Rattle.c_exprs.specs.Spelling.{helper_digits, extract_word, argument_spelled, source_spelled, constant_spelled}
+use Rattle.c_exprs.specs.Spelling.{expr_spelled, assign_spelled}
+use Rattle.c_tokens.specs.Marks.{open_round, close_round, semicolon, comma, minus, equals, dot, f_}
+use Rattle.c_tokens.specs.Tokens.{word, arrow, read, tokens_of}
+use Rattle.c_tokens.proofs.Lexing.{Lexes, line_lexes, lexes_append, tokens_from}
+use Rattle.c_tokens.proofs.Seeing.{see}
+use Rattle.c_tokens.proofs.WordBytes.{decimal_word_is, name_is_word}
 use Rattle.c_fields.specs.ExprLayout.{argument_text, source_text, constant_text, helper_text, last_text, middle_text}
 use Rattle.c_fields.specs.ExprLayout.{cast_text}
 use Rattle.c_fields.specs.ExprLayout.{function_text, applied_text, close_text, expr_text, indent_text, equals_text}

@@ -2,11 +2,11 @@
 use Rattle.std.proofs.Common.{◌≡◌, ℕ, Bool, true, false, List, [], ◌∷◌, ◌++◌, Some, option_map, refl, sym, ap, ◌∙◌}
 use Rattle.std.proofs.Common.{append_assoc}
 use Rattle.dt_text.specs.Pieces.{Piece, text, pieces_text}
-use Rattle.c_subset.specs.Tokens.{Token, word, Kind, letter, space, single, star, slash, equals, dash, above, other}
-use Rattle.c_subset.specs.Tokens.{kind}
-use Rattle.c_subset.specs.Tokens.{between, in_word, put, begin, in_word_step, read, and_then}
-use Rattle.c_subset.proofs.Lexing.{Lexes, lexes_append}
-use Rattle.c_subset.proofs.Seeing.{AllNamed, see, as_seen, read-append, put-and_then}
+use Rattle.c_tokens.specs.Tokens.{Token, word, Kind, letter, space, single, star, slash, equals, dash, above, other}
+use Rattle.c_tokens.specs.Tokens.{kind}
+use Rattle.c_tokens.specs.Tokens.{between, in_word, put, begin, in_word_step, read, and_then}
+use Rattle.c_tokens.proofs.Lexing.{Lexes, lexes_append}
+use Rattle.c_tokens.proofs.Seeing.{AllNamed, see, as_seen, read-append, put-and_then}
 
 -- the bytes have these tokens; the last of them has ended, or is a word that goes on
 pub data Opens (bytes : List ℕ) (ts : List Token) : Type 0 where

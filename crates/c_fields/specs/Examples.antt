@@ -6,7 +6,7 @@ use Rattle.dt_values.specs.declared.width.Width.TheVariants.{W32}
 use Rattle.dt_fields.specs.declared.field.FieldDef.{FieldDef}
 use Rattle.dt_fields.specs.declared.segment.Segment.{Segment}
 use Rattle.dt_fields.specs.declared.segment.Segment.TheVariants.{Bits}
-use Rattle.c_subset.specs.Exprs.{Term, insn, segment, deposit, cast}
+use Rattle.c_exprs.specs.Exprs.{Term, insn, segment, deposit, cast}
 use Rattle.dt_match.specs.FieldValues.{field_value}
 use Rattle.c_eval.specs.Meaning.{value_at}
 use Rattle.c_fields.specs.ExprLayout.{assign_line}

@@ -2,8 +2,8 @@
 use Rattle.std.specs.Prelude.{ℕ, suc, List, [], ◌∷◌, ◌++◌, ℤ, pos, negsuc, Option, Some, None, codes, decimal}
 use Rattle.dt_values.specs.declared.width.Width.{Width}
 use Rattle.dt_text.specs.Pieces.{text, name, spaces, pieces_text}
-use Rattle.c_subset.specs.Exprs.{Source, insn, argument, Term, constant, segment, deposit, cast, function, applied}
-use Rattle.c_subset.specs.ExprSpelling.{helper_digits, extract_word}
+use Rattle.c_exprs.specs.Exprs.{Source, insn, argument, Term, constant, segment, deposit, cast, function, applied}
+use Rattle.c_exprs.specs.Spelling.{helper_digits, extract_word}
 
 -- a->ARG, or u.f_S.ARG in the decoder
 abbrev pub argument_text : Option (List ℕ) → List ℕ → List ℕ

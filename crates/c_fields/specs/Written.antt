@@ -6,8 +6,8 @@ use Rattle.dt_fields.specs.declared.segment.Segment.{Segment}
 use Rattle.dt_fields.specs.declared.segment.Segment.TheVariants.{Bits, Named}
 use Rattle.dt_scope.specs.declared.value.FieldValue.{FieldValue}
 use Rattle.dt_scope.specs.declared.value.FieldValue.TheVariants.{Field, Constant}
-use Rattle.c_subset.specs.Exprs.{Source, insn, argument, Term, constant, segment, deposit, cast, function, applied}
-use Rattle.c_subset.specs.Exprs.{Assignment}
+use Rattle.c_exprs.specs.Exprs.{Source, insn, argument, Term, constant, segment, deposit, cast, function, applied}
+use Rattle.c_exprs.specs.Exprs.{Assignment}
 use Rattle.dt_match.specs.FieldValues.{has_sign}
 use Rattle.c_eval.specs.Meaning.{Place}
 

@@ -12,23 +12,25 @@ use Rattle.dt_fields.specs.declared.set.SetDef.{SetDef}
 use Rattle.dt_text.specs.Hexadecimal.{hex}
 use Rattle.dt_scope.specs.Patterns.{FlatPattern}
 use Rattle.dt_forms.specs.Sound.{IsSoundPattern}
-use Rattle.c_subset.specs.Bytes.{IsWord}
-use Rattle.c_subset.specs.Tokens.{word, mark, read, tokens_of}
-use Rattle.c_subset.specs.Marks as marks
+use Rattle.c_tokens.specs.Bytes.{IsWord}
+use Rattle.c_tokens.specs.Tokens.{word, mark, read, tokens_of}
+use Rattle.c_tokens.specs.Marks as marks
 use Rattle.c_subset.specs.Programs as c
-use Rattle.c_subset.specs.Programs.{Name, Extraction, Prefix, extract, call, Stmts, done, then, hex_length, word_type}
+use Rattle.c_subset.specs.Programs.{Name, Extraction, Prefix, extract, call, Stmts, done, then, word_type}
+use Rattle.c_tokens.specs.Words.{hex_length}
 use Rattle.c_subset.specs.Programs.{static_spelled, prototype_spelled, member_spelled, set_spelled, pattern_spelled}
 use Rattle.c_subset.specs.Programs.{extract_head_spelled, extract_spelled, if_spelled, stmt_spelled, stmts_spelled}
 use Rattle.c_subset.specs.Programs.{union_set_spelled, union_spelled, prefix_of, decoder_head_spelled}
 use Rattle.c_subset.specs.Programs.{decoder_end_spelled, decoder_spelled, spelling}
-use Rattle.c_subset.specs.Exprs.{Assignment}
-use Rattle.c_subset.specs.ExprForms.{AssignmentKeeps}
-use Rattle.c_subset.specs.ExprSpelling.{assignment_spelled}
+use Rattle.c_exprs.specs.Exprs.{Assignment}
+use Rattle.c_exprs.specs.Forms.{AssignmentKeeps}
+use Rattle.c_exprs.specs.Spelling.{assignment_spelled}
 use Rattle.c_eval.specs.Meaning.{helper_bits}
 use Rattle.c_subset.specs.Keeps.{IsTypeKept, SetKeeps, PatternNamed, ExtractionKeeps}
-use Rattle.c_subset.proofs.Lexing.{Lexes, line_lexes, lexes_none, lexes_append, lexes_each, tokens_from}
-use Rattle.c_subset.proofs.Seeing.{see}
-use Rattle.c_subset.proofs.Words.{hex_word_is, decimal_word_is, name_is_word, type_name_is_word, underscore}
+use Rattle.c_tokens.proofs.Lexing.{Lexes, line_lexes, lexes_none, lexes_append, lexes_each, tokens_from}
+use Rattle.c_tokens.proofs.Seeing.{see}
+use Rattle.c_tokens.proofs.WordBytes.{hex_word_is, decimal_word_is, name_is_word, underscore}
+use Rattle.c_subset.proofs.Words.{type_name_is_word}
 use Rattle.c_subset.proofs.Words.{word_type_is}
 use Rattle.c_fields.proofs.Lines as fields
 use Rattle.c_writer.specs.Parts.{NamedPattern, Parts, own_assignments}

@@ -33,8 +33,8 @@ use Rattle.dt_forms.specs.Models.{definitions_in, trial_patterns}
 use Rattle.dt_forms.specs.Sound.{IsSound, IsSoundPattern, IsSoundValue}
 use Rattle.dt_forms.specs.View.{given_values, members_of_pattern, pattern_seen, trial_pattern}
 use Rattle.c_subset.specs.Programs.{Name, Extraction}
-use Rattle.c_subset.specs.ExprForms.{AssignmentKeeps}
-use Rattle.c_subset.specs.Exprs.{Assignment}
+use Rattle.c_exprs.specs.Forms.{AssignmentKeeps}
+use Rattle.c_exprs.specs.Exprs.{Assignment}
 use Rattle.c_subset.specs.Keeps.{ExtractionKeeps, IsTypeKept, SetKeeps}
 use Rattle.dt_match.specs.Arguments.{given_in}
 use Rattle.dt_match.specs.Hosts.{script}

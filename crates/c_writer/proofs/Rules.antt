@@ -12,9 +12,9 @@ use Rattle.std.proofs.lemmas.List.{get_or-map, length-map}
 use Rattle.dt_values.specs.Names.{IsName}
 use Rattle.dt_values.specs.Widths.{width_bits}
 use Rattle.dt_fields.specs.declared.set.SetDef.{SetDef}
-use Rattle.c_subset.specs.Exprs.{Assignment}
+use Rattle.c_exprs.specs.Exprs.{Assignment}
 use Rattle.c_subset.specs.Programs.{Name, Prefix, Pattern, Extraction, Stmts, done}
-use Rattle.c_subset.specs.Keeps.{StmtsKeep, StmtsBelow, HaveNoCall, AllDiffer, KeepsRules}
+use Rattle.c_subset.specs.Keeps.{StmtsKeep, StmtsHaveCases, StmtsBelow, HaveNoCall, AllDiffer, KeepsRules}
 use Rattle.c_eval.specs.Meaning.{helper_bits}
 use Rattle.c_writer.specs.Parts.{NamedPattern, Parts, own_assignments}
 use Rattle.c_writer.specs.Prototypes.{has_other_name, first_of_each_name, prototype_of, prototypes}
@@ -144,6 +144,24 @@ chain_below p n [] h = tt
 chain_below p n (q ∷ qs) h = test_below p n (q.trial.flat.fixed_mask == 0) q _ (All-head (IsSoundIn p) q qs h)
     (chain_below p n qs (All-tail (IsSoundIn p) q qs h))
 
+-- no switch stands among them
+assigns_cases : (set : Name) (assigns : List Assignment) (rest : Stmts) → StmtsHaveCases rest
+    → StmtsHaveCases (assigns_then set assigns rest)
+assigns_cases set [] rest r = r
+assigns_cases set (a ∷ more) rest r = (tt, assigns_cases set more rest r)
+
+body_cases : (n : ℕ) (q : NamedPattern) (rest : Stmts) → StmtsHaveCases rest → StmtsHaveCases (body_then n q rest)
+body_cases n q rest r = (tt, assigns_cases q.set (own_assignments n q) _ (tt, r))
+
+test_cases : (n : ℕ) (b : Bool) (q : NamedPattern) (rest : Stmts) → StmtsHaveCases rest
+    → StmtsHaveCases (test_then b n q rest)
+test_cases n true q rest r = body_cases n q rest r
+test_cases n false q rest r = (body_cases n q done tt, r)
+
+chain_cases : (n : ℕ) (qs : List NamedPattern) → StmtsHaveCases (chain n qs)
+chain_cases n [] = tt
+chain_cases n (q ∷ qs) = test_cases n (q.trial.flat.fixed_mask == 0) q _ (chain_cases n qs)
+
 no_calls : (n : ℕ) (qs : List NamedPattern) → prototypes qs ≡ [] → HaveNoCall (chain n qs)
 no_calls n [] h = tt
 no_calls n (q ∷ qs) h = absurd (cc)
@@ -166,6 +184,10 @@ keeps_rules p s = record {
       (pairs_map (λ x y. x ≢ y) (λ (d : SetDef). d.name) no_set p.sets s.sets_differ);
   union_with_patterns = union_empty p.patterns (map (λ d. d.name) p.sets);
   body_keeps = chain_keeps p p.patterns s.patterns_sound;
+  body_cases = chain_cases (helper_bits p.width) p.patterns;
   body_below = chain_below p (helper_bits p.width) p.patterns s.patterns_sound;
   calls_with_patterns = no_calls (helper_bits p.width) p.patterns;
+  load_fits = tt;
+  load_below = tt;
+  load_cases = tt;
 }

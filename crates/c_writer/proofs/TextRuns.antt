@@ -9,7 +9,7 @@ use Rattle.dt_forms.specs.Models.{definitions_in, trial_patterns}
 use Rattle.dt_forms.specs.Sound.{IsSound}
 use Rattle.c_subset.specs.Programs.{Program}
 use Rattle.c_subset.specs.Spells.{Spells}
-use Rattle.c_subset.proofs.Programs.{law_text_spells_one}
+use Rattle.c_subset.proofs.ProgramsRead.{spelled_once}
 use Rattle.dt_match.specs.Hosts.{Host}
 use Rattle.dt_match.specs.Trial.{trial_of}
 use Rattle.c_eval.specs.Runs.{run_of}
@@ -28,7 +28,7 @@ use Rattle.c_writer.proofs.Rules.{keeps_rules}
 pub spelled_program : (p : Parts) (program : Program) → AreSound p → Spells (layout p) program
     → program ≡ chain_program p
 spelled_program p program sound spells =
-    law_text_spells_one (layout p) program (chain_program p) spells
+    spelled_once (layout p) program (chain_program p) spells
     (record { rules = keeps_rules p sound; tokens = layout_tokens p sound })
 
 pub run_of_text : {S : Type 0} (host : Host S) (options : Options) (model : Model) (program : Program) (word : ℕ)

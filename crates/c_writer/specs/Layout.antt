@@ -8,9 +8,10 @@ use Rattle.dt_fields.specs.declared.set.SetDef.{SetDef}
 use Rattle.dt_text.specs.Hexadecimal.{hex}
 use Rattle.dt_text.specs.Pieces.{text, name, spaces, pieces_text}
 use Rattle.dt_scope.specs.Patterns.{FlatPattern}
-use Rattle.c_subset.specs.Exprs.{Assignment}
+use Rattle.c_exprs.specs.Exprs.{Assignment}
 use Rattle.c_subset.specs.Programs as c
-use Rattle.c_subset.specs.Programs.{Name, Extraction, Prefix, hex_length, word_type}
+use Rattle.c_subset.specs.Programs.{Name, Extraction, Prefix, word_type}
+use Rattle.c_tokens.specs.Words.{hex_length}
 use Rattle.c_eval.specs.Meaning.{helper_bits}
 use Rattle.c_fields.specs.ExprLayout.{assign_line}
 use Rattle.c_writer.specs.Parts.{NamedPattern, Parts, own_assignments}

@@ -4,7 +4,7 @@ ghost use Rattle.std.specs.Prelude.{◌≡◌, [], false, filter, flat_map, map,
 ghost use Rattle.dt_text.specs.Puts.{Puts};
 ghost use Rattle.dt_forms.specs.Models.{definitions_in};
 ghost use Rattle.dt_forms.specs.View.{pattern_seen};
-ghost use Rattle.c_subset.specs.Programs.{hex_length};
+ghost use Rattle.c_tokens.specs.Words.{hex_length};
 ghost use Rattle.c_eval.specs.Meaning.{helper_bits};
 ghost use Rattle.c_writer.specs.Layout.{body_lines, call_line, close_line, comment_line, decoder_head_lines};
 ghost use Rattle.c_writer.specs.Layout.{empty_line, end_lines, extract_line, head_of_decoder, if_line};

@@ -1,0 +1,10 @@
+pub mod Slots
+pub mod StmtViews
+pub mod LiveTurns
+pub mod Assigning
+pub mod Going
+pub mod TestCounts
+pub mod SetsRun
+pub mod AlikeRuns
+pub mod RunSteps
+pub mod ScriptedRuns
