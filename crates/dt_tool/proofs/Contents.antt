@@ -4,61 +4,60 @@ use Rattle.std.proofs.Common.{◌≡◌, ℕ, List, [], get_or, Option, Some, No
 use Rattle.std.specs.Prelude.{Vec, IfOk, IfSome}
 use Rattle.dt_io.specs.Files.{Files}
 use Rattle.dt_io.specs.Folders.{FolderSeen}
-use Rattle.dt_tool.specs.Decoders.{IsDecoderOf}
-use Rattle.dt_tool.specs.Due.{Asked, Due, refused, written, IsDue, IsDueOfFiles, IsDueOfInputs, IsDueOfTexts}
 use Rattle.dt_tool.specs.Inputs.{Input, Unread, too_large, inputs_of, texts_in}
 use Rattle.dt_tool.specs.Messages as said
-use Rattle.dt_tool.specs.Stops.{AnswersGen, AreLoaded, IsTextOf, MakesDue, StopsGen, StopsLoading}
+use Rattle.dt_tool.specs.Stops.{AnswersTask, AreLoaded, IsTextOf, MakesDue, StopsTask, StopsLoading}
+use Rattle.dt_tool.specs.Tasks.{Task, Due, refused, written, IsDue, IsDueOfInputs, IsDueOfTexts}
 use Rattle.dt_tool.specs.declared.generate.Stop.{Stop}
 use Rattle.dt_tool.specs.declared.generate.Stop.TheVariants as stops
 use Rattle.dt_tool.proofs.Loading.{ReadOfSome, loaded_of_some, large_of_some}
 
-module _ (asked : Asked) where
+module _ (task : Task) where
   due_of_read : (inputs : List Input) (read : Result (List (List ℕ)) Unread) (what : Due) → texts_in inputs ≡ read
-      → IsDueOfTexts asked read what → IsDueOfInputs asked inputs what
+      → IsDueOfTexts task read what → IsDueOfInputs task inputs what
   due_of_read inputs read what is due =
-      subst (λ (r : Result (List (List ℕ)) Unread). IsDueOfTexts asked r what) (sym is) due
+      subst (λ (r : Result (List (List ℕ)) Unread). IsDueOfTexts task r what) (sym is) due
 
   -- what is made of loaded texts
   text_of_read : (inputs : List Input) (texts : List (List ℕ)) (text : List ℕ) → texts_in inputs ≡ Ok texts
-      → IsDueOfFiles asked.options asked.names texts (written text) → IsDecoderOf asked.options texts text
-      → IsTextOf asked inputs text
-  text_of_read inputs texts text is due decoder = record {
+      → task.due texts (written text) → task.besides texts text
+      → IsTextOf task inputs text
+  text_of_read inputs texts text is due besides = record {
     due = due_of_read inputs (Ok texts) (written text) is due;
-    decoder = record { texts = texts; read = is; decoder = decoder };
+    besides = record { texts = texts; read = is; besides = besides };
   }
 
-  text_known : (known : Option Files) (texts : List (List ℕ)) (text : List ℕ) → AreLoaded known asked.names texts
-      → IsDueOfFiles asked.options asked.names texts (written text) → IsDecoderOf asked.options texts text
-      → IfSome known (λ files. IsTextOf asked (inputs_of files asked.names) text)
-  text_known None texts text loaded due decoder = tt
-  text_known (Some files) texts text loaded due decoder =
-      text_of_read (inputs_of files asked.names) texts text loaded.held due decoder
+  text_known : (known : Option Files) (texts : List (List ℕ)) (text : List ℕ) → AreLoaded known task.names texts
+      → task.due texts (written text) → task.besides texts text
+      → IfSome known (λ files. IsTextOf task (inputs_of files task.names) text)
+  text_known None texts text loaded due besides = tt
+  text_known (Some files) texts text loaded due besides =
+      text_of_read (inputs_of files task.names) texts text loaded.held due besides
 
   refusal_known : (known : Option Files) (texts : List (List ℕ)) (message : List ℕ)
-      → AreLoaded known asked.names texts → IsDueOfFiles asked.options asked.names texts (refused message)
-      → IfSome known (λ files. IsDue asked files (refused message))
+      → AreLoaded known task.names texts → task.due texts (refused message)
+      → IfSome known (λ files. IsDue task files (refused message))
   refusal_known None texts message loaded due = tt
   refusal_known (Some files) texts message loaded due =
-      due_of_read (inputs_of files asked.names) (Ok texts) (refused message) loaded.held due
+      due_of_read (inputs_of files task.names) (Ok texts) (refused message) loaded.held due
 
   pub made : (A : Type 0) (before after : FolderSeen) (texts : List (List ℕ)) (result : Result (Vec ℕ A) Stop)
-      → AreLoaded before.files asked.names texts
-      → MakesDue result (IsDueOfFiles asked.options asked.names texts)
-      → IfOk result (λ text. IsDecoderOf asked.options texts text.items) → AnswersGen asked before after result
-  made A before after texts (Ok text) loaded due decoder =
-      let of : ReadOfSome asked.names (Ok texts) = loaded_of_some before.files asked.names texts loaded in
+      → AreLoaded before.files task.names texts
+      → MakesDue result (task.due texts)
+      → IfOk result (λ text. task.besides texts text.items) → AnswersTask task before after result
+  made A before after texts (Ok text) loaded due besides =
+      let of : ReadOfSome task.names (Ok texts) = loaded_of_some before.files task.names texts loaded in
       record {
-        known = text_known before.files texts text.items loaded due decoder;
+        known = text_known before.files texts text.items loaded due besides;
         some = record {
           inputs = of.inputs;
           some = of.some;
-          holds = text_of_read of.inputs texts text.items of.is due decoder;
+          holds = text_of_read of.inputs texts text.items of.is due besides;
         };
       }
-  made A before after texts (Err (stops.ReadFault message)) loaded due decoder = absurd due
-  made A before after texts (Err (stops.Refused message)) loaded due decoder =
-      let of : ReadOfSome asked.names (Ok texts) = loaded_of_some before.files asked.names texts loaded in
+  made A before after texts (Err (stops.ReadFault message)) loaded due besides = absurd due
+  made A before after texts (Err (stops.Refused message)) loaded due besides =
+      let of : ReadOfSome task.names (Ok texts) = loaded_of_some before.files task.names texts loaded in
       record {
         known = refusal_known before.files texts message.items loaded due;
         some = record {
@@ -67,28 +66,28 @@ module _ (asked : Asked) where
           holds = due_of_read of.inputs (Ok texts) (refused message.items) of.is due;
         };
       }
-  made A before after texts (Err stops.NoMemory) loaded due decoder = tt
+  made A before after texts (Err stops.NoMemory) loaded due besides = tt
 
   -- what stops the reading is due
   large_known : (known : Option Files) (file message : List ℕ) → message ≡ said.too_large file
-      → IfSome known (λ files. texts_in (inputs_of files asked.names) ≡ Err (too_large file))
-      → IfSome known (λ files. IsDue asked files (refused message))
+      → IfSome known (λ files. texts_in (inputs_of files task.names) ≡ Err (too_large file))
+      → IfSome known (λ files. IsDue task files (refused message))
   large_known None file message is h = tt
   large_known (Some files) file message is h =
-      due_of_read (inputs_of files asked.names) (Err (too_large file)) (refused message) h (ap refused is)
+      due_of_read (inputs_of files task.names) (Err (too_large file)) (refused message) h (ap refused is)
 
-  pub stopped : (before after : FolderSeen) (stop : Stop) → StopsLoading before after asked.names stop
-      → StopsGen asked before after stop
+  pub stopped : (before after : FolderSeen) (stop : Stop) → StopsLoading before after task.names stop
+      → StopsTask task before after stop
   stopped before after (stops.ReadFault message) stop = stop
   stopped before after (stops.Refused message) stop =
-      let of : ReadOfSome asked.names (Err (too_large (get_or asked.names stop.place []))) =
-      large_of_some asked.names stop.place [] stop.named in
+      let of : ReadOfSome task.names (Err (too_large (get_or task.names stop.place []))) =
+      large_of_some task.names stop.place [] stop.named in
       record {
-        known = large_known before.files (get_or asked.names stop.place []) message.items stop.said stop.stops;
+        known = large_known before.files (get_or task.names stop.place []) message.items stop.said stop.stops;
         some = record {
           inputs = of.inputs;
           some = of.some;
-          holds = due_of_read of.inputs (Err (too_large (get_or asked.names stop.place [])))
+          holds = due_of_read of.inputs (Err (too_large (get_or task.names stop.place [])))
               (refused message.items) of.is (ap refused stop.said);
         };
       }

@@ -23,7 +23,8 @@ use Rattle.dt_tree.specs.Entries.{patterns_of}
 use Rattle.dt_tree.specs.Refusals.{KeepGroupRules}
 use Rattle.dt_tree.specs.Verdicts.{kept, broken, empty_group, overlapping}
 use Rattle.dt_tree.proofs.Readings.{model_entries}
-use Rattle.dt_tool.specs.Due.{refused, written, text_of, IsDueOfFiles}
+use Rattle.dt_tool.specs.Due.{text_of, IsDueOfFiles}
+use Rattle.dt_tool.specs.Tasks.{refused, written}
 use Rattle.dt_tool.specs.Messages as said
 use Rattle.dt_tool.specs.Refusals.{IsFaultWithin, NamesEmpty, NamesKnot, RefusesEntries, RefusesFault, SaysFault}
 use Rattle.dt_tool.specs.Refusals.{SaysThis}

@@ -1,4 +1,4 @@
--- What a run of `gen` promises where a text is made, and where it stops.
+-- What a run promises where a text is made, and where it stops.
 use Rattle.std.proofs.Common.{◌≡◌, ◌≢◌, ◌≤◌, ℕ, List, Option, Some, None, Result, Err, refl, ap, sym, ◌∙◌, subst, arith}
 use Rattle.std.proofs.Common.{inl, inr, ◌⊎◌}
 use Rattle.std.specs.Prelude.{IfSome}
@@ -8,19 +8,19 @@ use Rattle.dt_io.specs.Folders.{FolderSeen, IsOnlyRead, ReadFailed}
 use Rattle.dt_io.specs.Outputs.{LeavesPart}
 use Rattle.dt_io.specs.Sinks.{SinkSeen, IsOnlyWritten}
 use Rattle.dt_tool.specs.Delivery.{DeliveryMeans, Delivers}
-use Rattle.dt_tool.specs.Due.{Asked, Due, missing, refused, written, IsDue, IsDueOfTexts}
 use Rattle.dt_tool.specs.Inputs as inputs
 use Rattle.dt_tool.specs.Inputs.{inputs_of, texts_in}
 use Rattle.dt_tool.specs.Messages as said
-use Rattle.dt_tool.specs.Outcomes.{RunSeen, Completes, CompletesOver, IsRightGen, Means, ChangesOnly, NoCountFalls}
+use Rattle.dt_tool.specs.Outcomes.{RunSeen, Completes, CompletesOver, IsRightTask, Means, ChangesOnly, NoCountFalls}
 use Rattle.dt_tool.specs.Outcomes.{Says, Stands, StandsPart, WritingFailed}
-use Rattle.dt_tool.specs.Stops.{IsMade, IsTextOf, StopsGen}
+use Rattle.dt_tool.specs.Stops.{IsMade, IsTextOf, StopsTask}
+use Rattle.dt_tool.specs.Tasks.{Task, Due, missing, refused, written, IsDue, IsDueOfTexts}
 use Rattle.dt_tool.specs.View.{message_of, outcome_of}
 use Rattle.dt_tool.specs.declared.generate.Stop.{Stop}
 use Rattle.dt_tool.specs.declared.generate.Stop.TheVariants as stops
 use Rattle.dt_tool.specs.declared.status.Outcome.{Outcome}
 use Rattle.dt_tool.specs.declared.status.Outcome.TheVariants as outcomes
-use Rattle.dt_tool.proofs.OneDue.{one_due}
+use Rattle.dt_tool.proofs.OneDue.{IsOnce, one_due}
 
 only_the_same : {R : Type 0} (before after : SinkSeen R) → after ≡ before → IsOnlyWritten before after
 only_the_same before after same =
@@ -65,18 +65,18 @@ late mid run = record {
   err_after = run.err_after;
 }
 
-module _ {O E : Type 0} (asked : Asked) (run : RunSeen O E) where
+module _ {O E : Type 0} (task : Task) (once : IsOnce task) (run : RunSeen O E) where
   -- what is due decides how a run is completed
-  completes : (files : Files) (made : Due) → IsDue asked files made
-      → Completes made run.outcome (ReadFailed run.folder run.folder_after) (WritingFailed asked.output run)
-      → CompletesOver asked run files
+  completes : (files : Files) (made : Due) → IsDue task files made
+      → Completes made run.outcome (ReadFailed run.folder run.folder_after) (WritingFailed task.output run)
+      → CompletesOver task run files
   completes files made due is = λ what h. subst
-      (λ (d : Due). Completes d run.outcome (ReadFailed run.folder run.folder_after) (WritingFailed asked.output run))
-      (one_due asked files made what due h) is
+      (λ (d : Due). Completes d run.outcome (ReadFailed run.folder run.folder_after) (WritingFailed task.output run))
+      (one_due task once files made what due h) is
 
   -- a text was made, and handed over
   module _ (mid : FolderSeen) (only : IsOnlyRead run.folder mid) (text : List ℕ)
-      (made : IsMade asked run.folder.files text) where
+      (made : IsMade task run.folder.files text) where
     stands : (output : Option (List ℕ)) → Stands output (late mid run) text → Stands output run text
     stands None h = h
     stands (Some name) h = h ∙ ap (λ known. with_file known name text) only.files
@@ -90,37 +90,37 @@ module _ {O E : Type 0} (asked : Asked) (run : RunSeen O E) where
     writing_failed None h = h
     writing_failed (Some name) h = subst (λ n. Rose n run.folder_after.write_faults) only.write_faults h
 
-    means : (outcome : Outcome) → DeliveryMeans asked.output text (late mid run) outcome → Means asked run outcome
-    means outcomes.Done h = record { text = text; made = made; whole = stands asked.output h.whole; said = h.said }
+    means : (outcome : Outcome) → DeliveryMeans task.output text (late mid run) outcome → Means task run outcome
+    means outcomes.Done h = record { text = text; made = made; whole = stands task.output h.whole; said = h.said }
     means outcomes.Refused h = absurd h
     means outcomes.Usage h = absurd h
     means outcomes.ReadFault h = absurd h
     means outcomes.WriteFault h = record {
       text = text;
       made = made;
-      part = stands_part asked.output h.part;
-      cause = writing_failed asked.output
+      part = stands_part task.output h.part;
+      cause = writing_failed task.output
           h.cause;
       said = h.said;
     }
     means outcomes.NoMemory h = absurd h
 
-    written_completes : (outcome : Outcome) → DeliveryMeans asked.output text (late mid run) outcome
-        → Completes (written text) outcome (ReadFailed run.folder run.folder_after) (WritingFailed asked.output run)
+    written_completes : (outcome : Outcome) → DeliveryMeans task.output text (late mid run) outcome
+        → Completes (written text) outcome (ReadFailed run.folder run.folder_after) (WritingFailed task.output run)
     written_completes outcomes.Done h = inl refl
     written_completes outcomes.Refused h = absurd h
     written_completes outcomes.Usage h = absurd h
     written_completes outcomes.ReadFault h = absurd h
-    written_completes outcomes.WriteFault h = inr (inr (inr (writing_failed asked.output h.cause)))
+    written_completes outcomes.WriteFault h = inr (inr (inr (writing_failed task.output h.cause)))
     written_completes outcomes.NoMemory h = absurd h
 
-    complete_over : (known : Option Files) → IfSome known (λ files. IsTextOf asked (inputs_of files asked.names) text)
+    complete_over : (known : Option Files) → IfSome known (λ files. IsTextOf task (inputs_of files task.names) text)
         → Completes (written text) run.outcome (ReadFailed run.folder run.folder_after)
-        (WritingFailed asked.output run) → IfSome known (CompletesOver asked run)
+        (WritingFailed task.output run) → IfSome known (CompletesOver task run)
     complete_over None due is = tt
     complete_over (Some files) due is = completes files (written text) due.due is
 
-    one_of_two : (outcome : Outcome) → DeliveryMeans asked.output text (late mid run) outcome
+    one_of_two : (outcome : Outcome) → DeliveryMeans task.output text (late mid run) outcome
         → (outcome ≢ outcomes.Done) × (outcome ≢ outcomes.WriteFault) → ⊥
     one_of_two outcomes.Done h neither = neither.0 refl
     one_of_two outcomes.Refused h neither = h
@@ -129,7 +129,7 @@ module _ {O E : Type 0} (asked : Asked) (run : RunSeen O E) where
     one_of_two outcomes.WriteFault h neither = neither.1 refl
     one_of_two outcomes.NoMemory h neither = h
 
-    pub right_text : Delivers asked.output text (late mid run) → IsRightGen asked run
+    pub right_text : Delivers task.output text (late mid run) → IsRightTask task run
     right_text delivers = record {
       means = means run.outcome delivers.means;
       complete = complete_over run.folder.files made.known (written_completes run.outcome delivers.means);
@@ -145,7 +145,7 @@ module _ {O E : Type 0} (asked : Asked) (run : RunSeen O E) where
 
   -- no text was made
   module _ (only : IsOnlyRead run.folder run.folder_after) (same : run.out_after ≡ run.out) where
-    stop_changes : IsOnlyWritten run.err run.err_after → ChangesOnly asked.output run
+    stop_changes : IsOnlyWritten run.err run.err_after → ChangesOnly task.output run
     stop_changes err = record {
       counts = read_falls_not run.folder run.folder_after only;
       read = λ neither. (only, same);
@@ -155,34 +155,34 @@ module _ {O E : Type 0} (asked : Asked) (run : RunSeen O E) where
       err = err;
     }
 
-    right_of : (outcome : Outcome) → run.outcome ≡ outcome → Means asked run outcome
-        → IfSome run.folder.files (CompletesOver asked run) → IsOnlyWritten run.err run.err_after → IsRightGen asked run
+    right_of : (outcome : Outcome) → run.outcome ≡ outcome → Means task run outcome
+        → IfSome run.folder.files (CompletesOver task run) → IsOnlyWritten run.err run.err_after → IsRightTask task run
     right_of outcome is means complete err = record {
-      means = subst (λ (o : Outcome). Means asked run o) (sym is) means;
+      means = subst (λ (o : Outcome). Means task run o) (sym is) means;
       complete = complete;
       only = stop_changes err;
     }
 
     refusal_complete : (message : List ℕ) (known : Option Files) → run.outcome ≡ outcomes.Refused
-        → IfSome known (λ files. IsDue asked files (refused message)) → IfSome known (CompletesOver asked run)
+        → IfSome known (λ files. IsDue task files (refused message)) → IfSome known (CompletesOver task run)
     refusal_complete message None is due = tt
     refusal_complete message (Some files) is due = completes files (refused message) due (inl is)
 
     -- a read fault completes what is due, whether the input isn't held or a read failed
     failed_complete : (what : Due) → run.outcome ≡ outcomes.ReadFault → ReadFailed run.folder run.folder_after
-        → Completes what run.outcome (ReadFailed run.folder run.folder_after) (WritingFailed asked.output run)
+        → Completes what run.outcome (ReadFailed run.folder run.folder_after) (WritingFailed task.output run)
     failed_complete (missing file) is failed = inl is
     failed_complete (refused message) is failed = inr (inr failed)
     failed_complete (written text) is failed = inr (inr (inl failed))
 
-    missing_due : (files : Files) (file : List ℕ) → texts_in (inputs_of files asked.names) ≡ Err (inputs.missing file)
-        → IsDue asked files (missing file)
+    missing_due : (files : Files) (file : List ℕ) → texts_in (inputs_of files task.names) ≡ Err (inputs.missing file)
+        → IsDue task files (missing file)
     missing_due files file is = let P : Result (List (List ℕ)) inputs.Unread
-        → Type 0 = λ r. IsDueOfTexts asked r (missing file) in subst P (sym is) refl
+        → Type 0 = λ r. IsDueOfTexts task r (missing file) in subst P (sym is) refl
 
     unread_complete : (file : List ℕ) (known : Option Files) → run.outcome ≡ outcomes.ReadFault
-        → IfSome known (λ files. (texts_in (inputs_of files asked.names) ≡ Err (inputs.missing file))
-        ⊎ ReadFailed run.folder run.folder_after) → IfSome known (CompletesOver asked run)
+        → IfSome known (λ files. (texts_in (inputs_of files task.names) ≡ Err (inputs.missing file))
+        ⊎ ReadFailed run.folder run.folder_after) → IfSome known (CompletesOver task run)
     unread_complete file None is h = tt
     unread_complete file (Some files) is (inl none) =
         completes files (missing file) (missing_due files file none) (inl is)
@@ -190,22 +190,22 @@ module _ {O E : Type 0} (asked : Asked) (run : RunSeen O E) where
 
     -- want of memory completes anything
     memory_complete : (what : Due) → run.outcome ≡ outcomes.NoMemory
-        → Completes what run.outcome (ReadFailed run.folder run.folder_after) (WritingFailed asked.output run)
+        → Completes what run.outcome (ReadFailed run.folder run.folder_after) (WritingFailed task.output run)
     memory_complete (missing file) is = inr (inl is)
     memory_complete (refused message) is = inr (inl is)
     memory_complete (written text) is = inr (inl is)
 
     memory_complete_over : (known : Option Files) → run.outcome ≡ outcomes.NoMemory
-        → IfSome known (CompletesOver asked run)
+        → IfSome known (CompletesOver task run)
     memory_complete_over None is = tt
     memory_complete_over (Some files) is = λ what due. memory_complete what is
 
-    pub right_stop : (stop : Stop) → StopsGen asked run.folder run.folder_after stop → run.outcome ≡ outcome_of stop
-        → Says run (message_of stop) → IsRightGen asked run
+    pub right_stop : (stop : Stop) → StopsTask task run.folder run.folder_after stop → run.outcome ≡ outcome_of stop
+        → Says run (message_of stop) → IsRightTask task run
     right_stop (stops.ReadFault message) stop is says =
         right_of outcomes.ReadFault is
         (record { place = stop.place; unread = stop.unread; said = subst (λ (m : List ℕ). Says run m) stop.said says })
-        (unread_complete (said.name_at asked.names stop.place) run.folder.files is stop.unread.stops) says.only
+        (unread_complete (said.name_at task.names stop.place) run.folder.files is stop.unread.stops) says.only
     right_stop (stops.Refused message) stop is says =
         right_of outcomes.Refused is (record { message = message.items; refusal = stop; said = says })
         (refusal_complete message.items run.folder.files is stop.known) says.only

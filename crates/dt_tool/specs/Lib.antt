@@ -1,5 +1,6 @@
 pub mod Messages
 pub mod Inputs
+pub mod Tasks
 pub mod Due
 pub mod Decoders
 pub mod View

@@ -8,9 +8,10 @@ use Rattle.dt_io.specs.Sinks.{SinkSeen, IsOnlyWritten, Reports, WriteFailed}
 use Rattle.dt_words.specs.declared.command.Command.{Command}
 use Rattle.dt_words.specs.declared.command.Command.TheVariants as command
 use Rattle.dt_words.specs.declared.usage.Usage.{Usage}
-use Rattle.dt_tool.specs.Due.{Asked, Due, missing, refused, written, IsDue}
+use Rattle.dt_tool.specs.Due.{gen_task}
 use Rattle.dt_tool.specs.Messages as said
 use Rattle.dt_tool.specs.Stops.{IsMade, IsRefusal, IsUnread}
+use Rattle.dt_tool.specs.Tasks.{Due, missing, refused, written, Task, IsDue}
 use Rattle.dt_tool.specs.declared.status.Outcome.{Outcome}
 use Rattle.dt_tool.specs.declared.status.Outcome.TheVariants as outcomes
 
@@ -23,6 +24,19 @@ pub record RunSeen (O E : Type 0) : Type 0 where
   pub out_after : SinkSeen O
   pub err : SinkSeen E
   pub err_after : SinkSeen E
+
+-- the same from its parts
+abbrev pub run_seen : {O E : Type 0} → Outcome → FolderSeen → FolderSeen → SinkSeen O → SinkSeen O → SinkSeen E
+    → SinkSeen E → RunSeen O E
+run_seen outcome folder folder_after out out_after err err_after = record {
+  outcome = outcome;
+  folder = folder;
+  folder_after = folder_after;
+  out = out;
+  out_after = out_after;
+  err = err;
+  err_after = err_after;
+}
 
 -- a text is where it is to be: behind what is known of `out`, or in the file of this name, and no other file changed
 abbrev pub Stands : {O E : Type 0} → Option (List ℕ) → RunSeen O E → List ℕ → Type 0
@@ -43,40 +57,40 @@ abbrev pub Says : {O E : Type 0} → RunSeen O E → List ℕ → Type 0
 Says run text = Reports run.err run.err_after text
 
 -- a text that is due stands whole, and nothing is said
-pub record WritesText {O E : Type 0} (asked : Asked) (run : RunSeen O E) : Type 0 where
+pub record WritesText {O E : Type 0} (task : Task) (run : RunSeen O E) : Type 0 where
   pub text : List ℕ
-  pub made : IsMade asked run.folder.files text
-  pub whole : Stands asked.output run text
+  pub made : IsMade task run.folder.files text
+  pub whole : Stands task.output run text
   pub said : run.err_after ≡ run.err
 
 -- a part of such a text stands, since a write failed, and that is said
-pub record WritesPart {O E : Type 0} (asked : Asked) (run : RunSeen O E) : Type 0 where
+pub record WritesPart {O E : Type 0} (task : Task) (run : RunSeen O E) : Type 0 where
   pub text : List ℕ
-  pub made : IsMade asked run.folder.files text
-  pub part : StandsPart asked.output run text
-  pub cause : WritingFailed asked.output run
+  pub made : IsMade task run.folder.files text
+  pub part : StandsPart task.output run text
+  pub cause : WritingFailed task.output run
   pub said : Says run said.cannot_write
 
 -- a refusal that is due is said
-pub record SaysRefusal {O E : Type 0} (asked : Asked) (run : RunSeen O E) : Type 0 where
+pub record SaysRefusal {O E : Type 0} (task : Task) (run : RunSeen O E) : Type 0 where
   pub message : List ℕ
-  pub refusal : IsRefusal asked run.folder.files message
+  pub refusal : IsRefusal task run.folder.files message
   pub said : Says run message
 
 -- a file where the reading stops is named
-pub record NamesUnread {O E : Type 0} (asked : Asked) (run : RunSeen O E) : Type 0 where
+pub record NamesUnread {O E : Type 0} (task : Task) (run : RunSeen O E) : Type 0 where
   pub place : ℕ
-  pub unread : IsUnread run.folder run.folder_after asked.names place
-  pub said : Says run (said.cannot_read (said.name_at asked.names place))
+  pub unread : IsUnread run.folder run.folder_after task.names place
+  pub said : Says run (said.cannot_read (said.name_at task.names place))
 
 -- what each outcome means, with what is said for it
-abbrev pub Means : {O E : Type 0} → Asked → RunSeen O E → Outcome → Type 0
-Means asked run outcomes.Done = WritesText asked run
-Means asked run outcomes.Refused = SaysRefusal asked run
-Means asked run outcomes.Usage = ⊥
-Means asked run outcomes.ReadFault = NamesUnread asked run
-Means asked run outcomes.WriteFault = WritesPart asked run
-Means asked run outcomes.NoMemory = Says run said.no_memory
+abbrev pub Means : {O E : Type 0} → Task → RunSeen O E → Outcome → Type 0
+Means task run outcomes.Done = WritesText task run
+Means task run outcomes.Refused = SaysRefusal task run
+Means task run outcomes.Usage = ⊥
+Means task run outcomes.ReadFault = NamesUnread task run
+Means task run outcomes.WriteFault = WritesPart task run
+Means task run outcomes.NoMemory = Says run said.no_memory
 
 -- while memory, reads and writes last, the outcome is that of what is due
 abbrev pub Completes : Due → Outcome → Type 0 → Type 0 → Type 0
@@ -87,9 +101,9 @@ Completes (refused message) outcome ReadFails WriteFails =
 Completes (written text) outcome ReadFails WriteFails =
     (outcome ≡ outcomes.Done) ⊎ ((outcome ≡ outcomes.NoMemory) ⊎ (ReadFails ⊎ WriteFails))
 
-abbrev pub CompletesOver : {O E : Type 0} → Asked → RunSeen O E → Files → Type 0
-CompletesOver asked run files = (what : Due) → IsDue asked files what
-    → Completes what run.outcome (ReadFailed run.folder run.folder_after) (WritingFailed asked.output run)
+abbrev pub CompletesOver : {O E : Type 0} → Task → RunSeen O E → Files → Type 0
+CompletesOver task run files = (what : Due) → IsDue task files what
+    → Completes what run.outcome (ReadFailed run.folder run.folder_after) (WritingFailed task.output run)
 
 -- no count of the folder falls
 pub record NoCountFalls (before after : FolderSeen) : Type 0 where
@@ -109,11 +123,11 @@ pub record ChangesOnly {O E : Type 0} (output : Option (List ℕ)) (run : RunSee
   pub out : IsOnlyWritten run.out run.out_after
   pub err : IsOnlyWritten run.err run.err_after
 
--- the promise of a run of `gen`
-pub record IsRightGen {O E : Type 0} (asked : Asked) (run : RunSeen O E) : Type 0 where
-  pub means : Means asked run run.outcome
-  pub complete : IfSome run.folder.files (CompletesOver asked run)
-  pub only : ChangesOnly asked.output run
+-- the promise of a run that does what a command is asked for
+pub record IsRightTask {O E : Type 0} (task : Task) (run : RunSeen O E) : Type 0 where
+  pub means : Means task run run.outcome
+  pub complete : IfSome run.folder.files (CompletesOver task run)
+  pub only : ChangesOnly task.output run
 
 -- what an outcome means where the words are no command, of which this is to be said
 abbrev pub MeansUsage : {O E : Type 0} → List ℕ → RunSeen O E → Outcome → Type 0
@@ -139,4 +153,4 @@ output_named (Ok (command.Gen options output names test)) = output
 abbrev pub IsRight : {O E : Type 0} → List (List ℕ) → Result Command (Usage × Option ℕ) → RunSeen O E → Type 0
 IsRight words (Err fault) run = IsRightUsage (said.usage_message words fault) run
 IsRight words (Ok (command.Gen options output names test)) run =
-    IsRightGen (record { options = options; output = output; names = names }) run
+    IsRightTask (gen_task (record { options = options; output = output; names = names })) run

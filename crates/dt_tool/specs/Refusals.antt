@@ -14,7 +14,7 @@ use Rattle.dt_forms.specs.View.{fault_seen, text_of_file}
 use Rattle.dt_scope.specs.Trees.{Items}
 use Rattle.dt_tree.specs.EmptyGroups.{IsLeastEmpty}
 use Rattle.dt_tree.specs.Refusals.{ShowsFirstKnot}
-use Rattle.dt_tool.specs.Due.{refused}
+use Rattle.dt_tool.specs.Tasks.{refused}
 use Rattle.dt_tool.specs.Messages as said
 use Rattle.dt_tool.specs.Stops.{Refuses}
 use Rattle.dt_tool.specs.declared.generate.Stop.{Stop}

@@ -4,33 +4,38 @@ use Rattle.std.specs.Prelude.{Vec}
 use Rattle.dt_io.specs.Files.{Files, Held, NotHeld}
 use Rattle.dt_io.specs.Folders.{FolderSeen, Missed, ReadFailed}
 use Rattle.dt_lines.specs.declared.scan.TheConstants.{LARGEST_FILE}
-use Rattle.dt_tool.specs.Decoders.{DecodesInputs}
-use Rattle.dt_tool.specs.Due.{Asked, Due, refused, written, IsDue, IsDueOfInputs}
 use Rattle.dt_tool.specs.Inputs.{Input, missing, too_large, inputs_of, texts_in, AreSomeInputs}
 use Rattle.dt_tool.specs.Messages as said
+use Rattle.dt_tool.specs.Tasks.{Due, refused, written, Task, IsDue, IsDueOfInputs}
 use Rattle.dt_tool.specs.declared.generate.Stop.{Stop}
 use Rattle.dt_tool.specs.declared.generate.Stop.TheVariants as stops
 
--- a text is due for these inputs, and decodes what they say
-pub record IsTextOf (asked : Asked) (inputs : List Input) (text : List ℕ) : Type 0 where
-  pub due : IsDueOfInputs asked inputs (written text)
-  pub decoder : DecodesInputs asked.options inputs text
+-- a text is what a written one is besides, for what is read of these inputs
+pub record IsBesides (task : Task) (inputs : List Input) (text : List ℕ) : Type 0 where
+  pub texts : List (List ℕ)
+  pub read : texts_in inputs ≡ Ok texts
+  pub besides : task.besides texts text
+
+-- a text is due for these inputs, with what it is besides
+pub record IsTextOf (task : Task) (inputs : List Input) (text : List ℕ) : Type 0 where
+  pub due : IsDueOfInputs task inputs (written text)
+  pub besides : IsBesides task inputs text
 
 -- some bytes in the files that are named make this so; two readings of one name may give different ones
-pub record ForSome (asked : Asked) (P : List Input → Type 0) : Type 0 where
+pub record ForSome (task : Task) (P : List Input → Type 0) : Type 0 where
   pub inputs : List Input
-  pub some : AreSomeInputs asked.names inputs
+  pub some : AreSomeInputs task.names inputs
   pub holds : P inputs
 
--- a text is due and decodes, over the files where they are known, and for some bytes in them
-pub record IsMade (asked : Asked) (files : Option Files) (text : List ℕ) : Type 0 where
-  pub known : IfSome files (λ files. IsTextOf asked (inputs_of files asked.names) text)
-  pub some : ForSome asked (λ inputs. IsTextOf asked inputs text)
+-- a text is due, over the files where they are known, and for some bytes in them
+pub record IsMade (task : Task) (files : Option Files) (text : List ℕ) : Type 0 where
+  pub known : IfSome files (λ files. IsTextOf task (inputs_of files task.names) text)
+  pub some : ForSome task (λ inputs. IsTextOf task inputs text)
 
 -- a refusal with this message is due, over the files where they are known, and for some bytes in them
-pub record IsRefusal (asked : Asked) (files : Option Files) (message : List ℕ) : Type 0 where
-  pub known : IfSome files (λ files. IsDue asked files (refused message))
-  pub some : ForSome asked (λ inputs. IsDueOfInputs asked inputs (refused message))
+pub record IsRefusal (task : Task) (files : Option Files) (message : List ℕ) : Type 0 where
+  pub known : IfSome files (λ files. IsDue task files (refused message))
+  pub some : ForSome task (λ inputs. IsDueOfInputs task inputs (refused message))
 
 -- the reading of files of these names stops at the one at this place, and why; those before it were read
 pub record IsUnread (before after : FolderSeen) (names : List (List ℕ)) (place : ℕ) : Type 0 where
@@ -46,15 +51,15 @@ pub record SaysUnread (before after : FolderSeen) (names : List (List ℕ)) (mes
   pub unread : IsUnread before after names place
   pub said : message ≡ said.cannot_read (said.name_at names place)
 
--- why `gen` makes no text; that memory runs out has no cause
-abbrev pub StopsGen : Asked → FolderSeen → FolderSeen → Stop → Type 0
-StopsGen asked before after (stops.ReadFault message) = SaysUnread before after asked.names message.items
-StopsGen asked before after (stops.Refused message) = IsRefusal asked before.files message.items
-StopsGen asked before after stops.NoMemory = Unit {0}
+-- why a command makes no text; that memory runs out has no cause
+abbrev pub StopsTask : Task → FolderSeen → FolderSeen → Stop → Type 0
+StopsTask task before after (stops.ReadFault message) = SaysUnread before after task.names message.items
+StopsTask task before after (stops.Refused message) = IsRefusal task before.files message.items
+StopsTask task before after stops.NoMemory = Unit {0}
 
-abbrev pub AnswersGen : {A : Type 0} → Asked → FolderSeen → FolderSeen → Result (Vec ℕ A) Stop → Type 0
-AnswersGen asked before after (Ok text) = IsMade asked before.files text.items
-AnswersGen asked before after (Err stop) = StopsGen asked before after stop
+abbrev pub AnswersTask : {A : Type 0} → Task → FolderSeen → FolderSeen → Result (Vec ℕ A) Stop → Type 0
+AnswersTask task before after (Ok text) = IsMade task before.files text.items
+AnswersTask task before after (Err stop) = StopsTask task before after stop
 
 -- a refusal says what is due; no other stop but that memory runs out comes
 abbrev pub Refuses : Stop → (Due → Type 0) → Type 0

@@ -14,10 +14,10 @@ ghost use Rattle.dt_forms.specs.View.{texts_of};
 ghost use Rattle.dt_tree.specs.Entries.{AreInOrder, patterns_of};
 ghost use Rattle.dt_tree.specs.Refusals.{KeepGroupRules, IsRefused};
 ghost use Rattle.dt_tool.specs.Decoders.{IsDecoderOf};
-ghost use Rattle.dt_tool.specs.Due.{IsDueOfFiles};
+ghost use Rattle.dt_tool.specs.Due.{IsDueOfFiles, gen_task};
 ghost use Rattle.dt_tool.specs.Messages as said;
 ghost use Rattle.dt_tool.specs.Refusals.{IsFaultWithin, RefusesEntries, RefusesFault, SaysFault, SaysThis};
-ghost use Rattle.dt_tool.specs.Stops.{AnswersGen, MakesDue};
+ghost use Rattle.dt_tool.specs.Stops.{AnswersTask, MakesDue};
 ghost use Rattle.dt_tool.specs.View.{asked_seen, contents};
 
 use crate::inputs::{load_all, sources_of};
@@ -59,7 +59,7 @@ pub enum Stop {
 pub fn generate<D: Folder>(alloc: Global, request: Request, folder: &mut D) -> Result<Vec<u8>, Stop>
     requires fit { IsOptions request.options.now }
     requires few { length request.files.now ≤ MOST_FILES }
-    ensures answer { AnswersGen (asked_seen request.entry) (D.seen folder.old) (D.seen folder.new) result }
+    ensures answer { AnswersTask (gen_task (asked_seen request.entry)) (D.seen folder.old) (D.seen folder.new) result }
     ensures only { IsOnlyRead (D.seen folder.old) (D.seen folder.new) }
 {
     let files = load_all(alloc, request.files, folder)?;

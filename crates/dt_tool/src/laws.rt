@@ -2,11 +2,12 @@
 
 ghost use Rattle.std.specs.Prelude.{◌≡◌};
 ghost use Rattle.dt_io.specs.Files.{Files};
-ghost use Rattle.dt_tool.specs.Due.{Asked, Due, IsDue};
+ghost use Rattle.dt_tool.specs.Due.{Asked, gen_task};
+ghost use Rattle.dt_tool.specs.Tasks.{Due, IsDue};
 
 /// Exactly one thing is due for what `gen` is asked for, over files.
 pub fn law_one_due()
-    ensures one { (asked : Asked) (files : Files) (one other : Due) → IsDue asked files one
-        → IsDue asked files other → one ≡ other }
-    ensures some { (asked : Asked) (files : Files) → (what : Due) × IsDue asked files what }
+    ensures one { (asked : Asked) (files : Files) (one other : Due) → IsDue (gen_task asked) files one
+        → IsDue (gen_task asked) files other → one ≡ other }
+    ensures some { (asked : Asked) (files : Files) → (what : Due) × IsDue (gen_task asked) files what }
 {}

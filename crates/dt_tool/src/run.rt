@@ -5,8 +5,9 @@ ghost use Rattle.dt_io.specs.Sinks.{Reports};
 ghost use Rattle.dt_scope.specs.Options.{IsOptions};
 ghost use Rattle.dt_words.specs.declared.rows.TheConstants.{MOST_FILES};
 ghost use Rattle.dt_tool.specs.Delivery.{Delivers};
+ghost use Rattle.dt_tool.specs.Due.{gen_task};
 ghost use Rattle.dt_tool.specs.Messages as said;
-ghost use Rattle.dt_tool.specs.Outcomes.{IsRightGen};
+ghost use Rattle.dt_tool.specs.Outcomes.{IsRightTask, run_seen};
 ghost use Rattle.dt_tool.specs.View.{asked_seen, message_of, outcome_of};
 
 use crate::generate::{Request, Stop, generate};
@@ -26,15 +27,8 @@ pub fn run_gen<D: Folder, O: Sink, E: Sink>(
 ) -> Outcome
     requires fit { IsOptions request.options.now }
     requires few { length request.files.now ≤ MOST_FILES }
-    ensures right { IsRightGen (asked_seen request.entry) (record {
-      outcome = result;
-      folder = D.seen folder.old;
-      folder_after = D.seen folder.new;
-      out = O.seen out.old;
-      out_after = O.seen out.new;
-      err = E.seen err.old;
-      err_after = E.seen err.new;
-    }) }
+    ensures right { IsRightTask (gen_task (asked_seen request.entry)) (run_seen result
+        (D.seen folder.old) (D.seen folder.new) (O.seen out.old) (O.seen out.new) (E.seen err.old) (E.seen err.new)) }
     ensures untouched { result ≢ Outcome.Done → result ≢ Outcome.WriteFault → out.new ≡ out.old }
     ensures to_file { IsSome request.entry.output.now → out.new ≡ out.old }
     ensures quiet { result ≡ Outcome.Done → err.new ≡ err.old }
@@ -53,15 +47,8 @@ fn deliver<D: Folder, O: Sink, E: Sink>(
     out: &mut O,
     err: &mut E,
 ) -> Outcome
-    ensures delivers { Delivers output.now text.now (record {
-      outcome = result;
-      folder = D.seen folder.old;
-      folder_after = D.seen folder.new;
-      out = O.seen out.old;
-      out_after = O.seen out.new;
-      err = E.seen err.old;
-      err_after = E.seen err.new;
-    }) }
+    ensures delivers { Delivers output.now text.now (run_seen result
+        (D.seen folder.old) (D.seen folder.new) (O.seen out.old) (O.seen out.new) (E.seen err.old) (E.seen err.new)) }
     ensures to_file { IsSome output.now → out.new ≡ out.old }
     ensures quiet { result ≡ Outcome.Done → err.new ≡ err.old }
 {

@@ -6,7 +6,7 @@ ghost use Rattle.dt_io.specs.Sinks.{Reports};
 ghost use Rattle.dt_words.specs.Commands.{command_of};
 ghost use Rattle.dt_words.specs.View.{texts, value_seen};
 ghost use Rattle.dt_tool.specs.Messages as said;
-ghost use Rattle.dt_tool.specs.Outcomes.{IsRight, output_named};
+ghost use Rattle.dt_tool.specs.Outcomes.{IsRight, output_named, run_seen};
 ghost use Rattle.dt_tool.specs.Statuses.{exit_status, tests_errors};
 
 use crate::generate::Request;
@@ -29,15 +29,8 @@ pub fn tool<D: Folder, O: Sink, E: Sink>(
     err: &mut E,
 ) -> Status
     ensures number { result.number ≡ exit_status (tests_errors (command_of (texts words.now))) result.outcome }
-    ensures right { IsRight (texts words.now) (command_of (texts words.now)) (record {
-      outcome = result.outcome;
-      folder = D.seen folder.old;
-      folder_after = D.seen folder.new;
-      out = O.seen out.old;
-      out_after = O.seen out.new;
-      err = E.seen err.old;
-      err_after = E.seen err.new;
-    }) }
+    ensures right { IsRight (texts words.now) (command_of (texts words.now)) (run_seen result.outcome
+        (D.seen folder.old) (D.seen folder.new) (O.seen out.old) (O.seen out.new) (E.seen err.old) (E.seen err.new)) }
     ensures untouched { result.outcome ≢ Outcome.Done → result.outcome ≢ Outcome.WriteFault → out.new ≡ out.old }
     ensures to_file { IsSome (output_named (command_of (texts words.now))) → out.new ≡ out.old }
     ensures unread { result.outcome ≡ Outcome.Usage → folder.new ≡ folder.old }

@@ -1,15 +1,17 @@
 use Rattle.std.proofs.Common.{refl}
+use Rattle.dt_tool.specs.Due.{gen_task}
 use Rattle.dt_tool.specs.View.{asked_seen}
+use Rattle.dt_tool.proofs.OneDue.{gen_once}
 use Rattle.dt_tool.proofs.Right.{right_stop, right_text}
 use Rattle.dt_tool.proofs.run.run_gen.Goals as goal
 
 pub returns-in-Ok-clause-right : goal.returns-in-Ok-clause-right
 returns-in-Ok-clause-right g c =
-    right_text (asked_seen c.args.request) _
+    right_text (gen_task (asked_seen c.args.request)) (gen_once (asked_seen c.args.request)) _
     (g.D.Folder.seen c.generate.new.folder) c.in-Ok.ensures.only c.in-Ok.text.items c.in-Ok.ensures.answer
     (rw c.as_slice.ensures.value at c.deliver.ensures.delivers)
 
 pub returns-in-Err-clause-right : goal.returns-in-Err-clause-right
 returns-in-Err-clause-right g c =
-    right_stop (asked_seen c.args.request) _ c.in-Err.ensures.only refl c.in-Err.stop c.in-Err.ensures.answer
+    right_stop (gen_task (asked_seen c.args.request)) (gen_once (asked_seen c.args.request)) _ c.in-Err.ensures.only refl c.in-Err.stop c.in-Err.ensures.answer
     c.report_stop.ensures.outcome c.report_stop.ensures.said
