@@ -1,14 +1,20 @@
 -- The programs of the example texts keep the rules.
 use Rattle.std.proofs.Common.{◌≡◌, ◌≢◌, codes, Bool, true, false, not, ◌&&◌, List, [], ◌∷◌, refl, arith, lit<, lit≤}
-use Rattle.std.specs.Prelude.{IsTrue}
+use Rattle.std.specs.Prelude.{IsTrue, ℕ, ◌<◌, ◌^◌, Some, None, map}
 use Rattle.std.specs.List.{All}
 use Rattle.std.proofs.lemmas.List.Elements.{All-nil, All-cons}
 use Rattle.std.proofs.lemmas.List.Kept.{AllPairs-cons}
 use Rattle.dt_values.specs.Names.{IsName}
+use Rattle.dt_values.specs.Widths.{width_bits}
 use Rattle.dt_values.specs.declared.ctype.Member.{Member}
+use Rattle.dt_values.specs.declared.width.Width.{Width}
+use Rattle.dt_values.specs.declared.width.Width.TheVariants.{W32}
+use Rattle.dt_fields.specs.declared.set.SetDef.{SetDef}
+use Rattle.c_exprs.specs.Exprs.{segment, argument}
 use Rattle.c_exprs.specs.Forms.{AssignmentKeeps}
-use Rattle.c_subset.specs.Programs.{Name}
-use Rattle.c_subset.specs.Keeps.{AllDiffer, IsTypeKept, SetKeeps, PatternNamed, ExtractionKeeps, KeepsRules}
+use Rattle.c_subset.specs.Programs.{Name, Stmts, done, Extraction, Program}
+use Rattle.c_subset.specs.Keeps.{AllDiffer, IsTypeKept, SetKeeps, PatternNamed, ExtractionKeeps, KeepsRules, StmtsKeep}
+use Rattle.c_subset.specs.Keeps.{StmtsHaveCases, StmtsBelow}
 use Rattle.c_subset.proofs.Apart.{same_bytes, differ}
 use Rattle.c_tokens.proofs.Bytes.{both_true}
 use Rattle.c_subset.specs.Examples.{nop_program, empty_program, arguments_program, branch_program, assigned_program}
@@ -54,10 +60,26 @@ three P x y z h k l = All-cons P x (y ∷ z ∷ []) h (two P y z k l)
 four : {X : Type 0} (P : X → Type 0) (x y z w : X) → P x → P y → P z → P w → All P (x ∷ y ∷ z ∷ w ∷ [])
 four P x y z w h k l m = All-cons P x (y ∷ z ∷ w ∷ []) h (three P y z w k l m)
 
-pub empty_keeps : KeepsRules empty_program
-empty_keeps = record {
-  sets_keep = All-nil SetKeeps;
-  sets_differ = all_differ [] refl;
+-- a program of these sets and no pattern
+abbrev no_pattern : List SetDef → Program
+no_pattern sets = record {
+  width = W32;
+  sets = sets;
+  prefix = None;
+  patterns = [];
+  extracts = [];
+  decoder = codes "decode";
+  decoder_static = true;
+  union_sets = [];
+  body = done;
+  load = None;
+}
+
+no_pattern_keeps : (sets : List SetDef) → All SetKeeps sets → AllDiffer (map (λ s. s.name) sets)
+    → KeepsRules (no_pattern sets)
+no_pattern_keeps sets keep differ = record {
+  sets_keep = keep;
+  sets_differ = differ;
   prefix_with_patterns = ((λ h. cc), (λ h. absurd (h refl)));
   prefix_named = tt;
   patterns_named = All-nil PatternNamed;
@@ -77,82 +99,113 @@ empty_keeps = record {
   calls_with_patterns = λ e. tt;
 }
 
+-- a program of one set and one pattern that has it, without a load function
+module _ (w : Width) (s : SetDef) (prefix pattern : Name) (e : Extraction) (decoder : Name) (body : Stmts) where
+  abbrev one_pattern : Program
+  one_pattern = record {
+    width = w;
+    sets = s ∷ [];
+    prefix = Some (record { name = prefix; is_static = true });
+    patterns = record { name = pattern; set = s.name } ∷ [];
+    extracts = e ∷ [];
+    decoder = decoder;
+    decoder_static = true;
+    union_sets = s.name ∷ [];
+    body = body;
+    load = None;
+  }
+
+  -- what is left to show of it
+  record PartsKeep : Type 0 where
+    set_keeps : SetKeeps s
+    prefix_named : IsName prefix
+    pattern_named : IsName pattern
+    extraction_keeps : ExtractionKeeps e
+    decoder_named : IsName decoder
+    body_keeps : StmtsKeep body
+    body_cases : StmtsHaveCases body
+    body_below : StmtsBelow (2 ^ width_bits w) body
+
+  one_pattern_keeps : PartsKeep → KeepsRules one_pattern
+  one_pattern_keeps h = record {
+    sets_keep = one SetKeeps s h.set_keeps;
+    sets_differ = all_differ (s.name ∷ []) refl;
+    prefix_with_patterns = ((λ k e. cc), (λ k. refl));
+    prefix_named = h.prefix_named;
+    patterns_named = one PatternNamed _ (record { name = h.pattern_named; set = h.set_keeps.named });
+    patterns_differ = all_differ (pattern ∷ []) refl;
+    extracts_keep = one ExtractionKeeps e h.extraction_keeps;
+    formats_differ = all_differ (e.format ∷ []) refl;
+    decoder_named = h.decoder_named;
+    union_sets_named = one IsName s.name h.set_keeps.named;
+    union_sets_differ = all_differ (s.name ∷ []) refl;
+    union_with_patterns = λ e. cc;
+    body_keeps = h.body_keeps;
+    body_cases = h.body_cases;
+    body_below = h.body_below;
+    load_fits = tt;
+    load_below = tt;
+    load_cases = tt;
+    calls_with_patterns = λ e. cc;
+  }
+
+-- the lowest bits of the argument a, in an extraction
+low_bits_keep : (name : Name) (signed : Bool) (n : ℕ) → IsName name → n < 2 ^ 32
+    → AssignmentKeeps (record { argument = name; value = segment signed (argument None (codes "a")) 0 n })
+low_bits_keep name signed n named small = record {
+  argument = named;
+  value = record { form = refl; names = (refl, lit< tt, small) };
+  place = refl;
+}
+
+pub empty_keeps : KeepsRules empty_program
+empty_keeps = no_pattern_keeps [] (All-nil SetKeeps) (all_differ [] refl)
+
+pub arguments_keep : KeepsRules arguments_program
+arguments_keep =
+    no_pattern_keeps _
+    (one SetKeeps _ (record {
+      named = refl;
+      inside = refl;
+      few = lit≤ tt;
+      arguments_named = two (λ (m : Member). IsName m.name) _ _ refl refl;
+      arguments_differ = all_differ (codes "rd" ∷ codes "imm" ∷ []) refl;
+      types = two (λ (m : Member). IsTypeKept m.ctype) _ _ tt tt;
+    }))
+    (all_differ (_ ∷ []) refl)
+
 pub nop_keeps : KeepsRules nop_program
-nop_keeps = record {
-  sets_keep = one SetKeeps _ (record {
+nop_keeps = one_pattern_keeps _ _ _ _ _ _ _ (record {
+  set_keeps = record {
     named = refl;
     inside = refl;
     few = lit≤ tt;
     arguments_named = All-nil (λ (m : Member). IsName m.name);
     arguments_differ = all_differ [] refl;
     types = All-nil (λ (m : Member). IsTypeKept m.ctype);
-  });
-  sets_differ = all_differ (_ ∷ []) refl;
-  prefix_with_patterns = ((λ h e. cc), (λ h. refl));
+  };
   prefix_named = refl;
-  patterns_named = one PatternNamed _ (record { name = refl; set = refl });
-  patterns_differ = all_differ (_ ∷ []) refl;
-  extracts_keep = one ExtractionKeeps _ (record { format = refl; set = refl; assigns = All-nil AssignmentKeeps });
-  formats_differ = all_differ (_ ∷ []) refl;
+  pattern_named = refl;
+  extraction_keeps = record { format = refl; set = refl; assigns = All-nil AssignmentKeeps };
   decoder_named = refl;
-  union_sets_named = one IsName _ refl;
-  union_sets_differ = all_differ (_ ∷ []) refl;
-  union_with_patterns = λ e. cc;
   body_keeps = (((refl, refl), ((refl, refl), tt)), tt);
   body_cases = ((tt, (tt, tt)), tt);
   body_below = ((lit< tt, lit< tt, (tt, (tt, tt))), tt);
-  load_fits = tt;
-  load_below = tt;
-  load_cases = tt;
-  calls_with_patterns = λ e. cc;
-}
-
-pub arguments_keep : KeepsRules arguments_program
-arguments_keep = record {
-  sets_keep = one SetKeeps _ (record {
-    named = refl;
-    inside = refl;
-    few = lit≤ tt;
-    arguments_named = two (λ (m : Member). IsName m.name) _ _ refl refl;
-    arguments_differ = all_differ (codes "rd" ∷ codes "imm" ∷ []) refl;
-    types = two (λ (m : Member). IsTypeKept m.ctype) _ _ tt tt;
-  });
-  sets_differ = all_differ (_ ∷ []) refl;
-  prefix_with_patterns = ((λ h. cc), (λ h. absurd (h refl)));
-  prefix_named = tt;
-  patterns_named = All-nil PatternNamed;
-  patterns_differ = all_differ [] refl;
-  extracts_keep = All-nil ExtractionKeeps;
-  formats_differ = all_differ [] refl;
-  decoder_named = refl;
-  union_sets_named = All-nil IsName;
-  union_sets_differ = all_differ [] refl;
-  union_with_patterns = λ e. refl;
-  body_keeps = tt;
-  body_cases = tt;
-  body_below = tt;
-  load_fits = tt;
-  load_below = tt;
-  load_cases = tt;
-  calls_with_patterns = λ e. tt;
-}
+})
 
 pub branch_keeps : KeepsRules branch_program
-branch_keeps = record {
-  sets_keep = one SetKeeps _ (record {
+branch_keeps = one_pattern_keeps _ _ _ _ _ _ _ (record {
+  set_keeps = record {
     named = refl;
     inside = refl;
     few = lit≤ tt;
     arguments_named = one (λ (m : Member). IsName m.name) _ refl;
     arguments_differ = all_differ (_ ∷ []) refl;
     types = one (λ (m : Member). IsTypeKept m.ctype) _ tt;
-  });
-  sets_differ = all_differ (_ ∷ []) refl;
-  prefix_with_patterns = ((λ h e. cc), (λ h. refl));
+  };
   prefix_named = refl;
-  patterns_named = one PatternNamed _ (record { name = refl; set = refl });
-  patterns_differ = all_differ (_ ∷ []) refl;
-  extracts_keep = one ExtractionKeeps _ (record {
+  pattern_named = refl;
+  extraction_keeps = record {
     format = refl;
     set = refl;
     assigns = one AssignmentKeeps _ (record {
@@ -178,50 +231,31 @@ branch_keeps = record {
       };
       place = (((tt, tt), tt), tt);
     });
-  });
-  formats_differ = all_differ (_ ∷ []) refl;
+  };
   decoder_named = refl;
-  union_sets_named = one IsName _ refl;
-  union_sets_differ = all_differ (_ ∷ []) refl;
-  union_with_patterns = λ e. cc;
   body_keeps = (((refl, refl), ((refl, refl), tt)), tt);
   body_cases = ((tt, (tt, tt)), tt);
   body_below = ((lit< tt, lit< tt, (tt, (tt, tt))), tt);
-  load_fits = tt;
-  load_below = tt;
-  load_cases = tt;
-  calls_with_patterns = λ e. cc;
-}
+})
 
 pub assigned_keeps : KeepsRules assigned_program
-assigned_keeps = record {
-  sets_keep = one SetKeeps _ (record {
+assigned_keeps = one_pattern_keeps _ _ _ _ _ _ _ (record {
+  set_keeps = record {
     named = refl;
     inside = refl;
     few = lit≤ tt;
     arguments_named = four (λ (m : Member). IsName m.name) _ _ _ _ refl refl refl refl;
     arguments_differ = all_differ (codes "a" ∷ codes "b" ∷ codes "c" ∷ codes "d" ∷ []) refl;
     types = four (λ (m : Member). IsTypeKept m.ctype) _ _ _ _ tt tt tt tt;
-  });
-  sets_differ = all_differ (_ ∷ []) refl;
-  prefix_with_patterns = ((λ h e. cc), (λ h. refl));
+  };
   prefix_named = refl;
-  patterns_named = one PatternNamed _ (record { name = refl; set = refl });
-  patterns_differ = all_differ (_ ∷ []) refl;
-  extracts_keep = one ExtractionKeeps _ (record {
+  pattern_named = refl;
+  extraction_keeps = record {
     format = refl;
     set = refl;
-    assigns = one AssignmentKeeps _ (record {
-      argument = refl;
-      value = record { form = refl; names = (refl, lit< tt, lit< tt) };
-      place = refl;
-    });
-  });
-  formats_differ = all_differ (_ ∷ []) refl;
+    assigns = one AssignmentKeeps _ (low_bits_keep _ _ _ refl (lit< tt));
+  };
   decoder_named = refl;
-  union_sets_named = one IsName _ refl;
-  union_sets_differ = all_differ (_ ∷ []) refl;
-  union_with_patterns = λ e. cc;
   body_keeps = (
     (refl, refl, record { form = tt; names = lit< tt }, tt),
     (
@@ -234,49 +268,30 @@ assigned_keeps = record {
   );
   body_cases = (tt, (tt, (tt, (tt, (tt, tt)))));
   body_below = (tt, (tt, (tt, (tt, (tt, tt)))));
-  load_fits = tt;
-  load_below = tt;
-  load_cases = tt;
-  calls_with_patterns = λ e. cc;
-}
+})
 
 pub placed_keep : KeepsRules (placed_program in_extraction in_decoder)
-placed_keep = record {
-  sets_keep = one SetKeeps _ (record {
+placed_keep = one_pattern_keeps _ _ _ _ _ _ _ (record {
+  set_keeps = record {
     named = refl;
     inside = refl;
     few = lit≤ tt;
     arguments_named = two (λ (m : Member). IsName m.name) _ _ refl refl;
     arguments_differ = all_differ (codes "a" ∷ codes "b" ∷ []) refl;
     types = two (λ (m : Member). IsTypeKept m.ctype) _ _ tt tt;
-  });
-  sets_differ = all_differ (_ ∷ []) refl;
-  prefix_with_patterns = ((λ h e. cc), (λ h. refl));
+  };
   prefix_named = refl;
-  patterns_named = one PatternNamed _ (record { name = refl; set = refl });
-  patterns_differ = all_differ (_ ∷ []) refl;
-  extracts_keep = one ExtractionKeeps _ (record {
+  pattern_named = refl;
+  extraction_keeps = record {
     format = refl;
     set = refl;
-    assigns = one AssignmentKeeps _ (record {
-      argument = refl;
-      value = record { form = refl; names = (refl, lit< tt, lit< tt) };
-      place = refl;
-    });
-  });
-  formats_differ = all_differ (_ ∷ []) refl;
+    assigns = one AssignmentKeeps _ (low_bits_keep _ _ _ refl (lit< tt));
+  };
   decoder_named = refl;
-  union_sets_named = one IsName _ refl;
-  union_sets_differ = all_differ (_ ∷ []) refl;
-  union_with_patterns = λ e. cc;
   body_keeps = (
     (refl, refl, record { form = refl; names = ((refl, refl), lit< tt, lit< tt) }, refl),
     ((refl, refl), ((refl, refl), tt)),
   );
   body_cases = (tt, (tt, (tt, tt)));
   body_below = (tt, (tt, (tt, tt)));
-  load_fits = tt;
-  load_below = tt;
-  load_cases = tt;
-  calls_with_patterns = λ e. cc;
-}
+})

@@ -12,10 +12,12 @@ pub mod Braces
 pub mod Depths
 pub mod Nestings
 pub mod ProgramsRead
+pub mod OneReading
 pub mod JoinedWords
 pub mod ReadLoops
 pub mod StmtViews
 pub mod CallCounts
+pub mod Fewer
 pub mod NamesApart
 pub mod FewOpen
 pub mod Answering

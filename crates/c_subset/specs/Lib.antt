@@ -4,6 +4,7 @@ pub mod Keeps
 pub mod Nesting
 pub mod Sites
 pub mod Spells
+pub mod Readings
 pub mod Examples
 pub mod SetParsing
 pub mod PatternParsing

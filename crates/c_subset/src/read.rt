@@ -1,6 +1,6 @@
 //! Reads a C text: exactly the programs of the C subset.
 
-ghost use Rattle.std.specs.Prelude.{◌≡◌, ℕ, List, Some, IfOk, OnOk, IsErrOf, map, option_map};
+ghost use Rattle.std.specs.Prelude.{◌≡◌, ◌<◌, ◌^◌, ℕ, List, Some, IfOk, OnOk, IsErrOf, map, option_map};
 ghost use Rattle.c_tokens.specs.Before.{tokens_before};
 ghost use Rattle.c_tokens.specs.Depth.{IsTooDeep};
 ghost use Rattle.c_tokens.specs.Gives.{Gives};
@@ -13,6 +13,7 @@ ghost use Rattle.c_subset.specs.ProgramParsing.{body_at, defined_at, is_some_pat
 ghost use Rattle.c_subset.specs.ProgramParsing.{read_whole, scope_for};
 ghost use Rattle.c_subset.specs.ReadAnswers.{IsDistinct, IsRead, defined_seen};
 ghost use Rattle.c_subset.specs.ReadView.{scope_of};
+ghost use Rattle.c_subset.specs.Sites.{statements_in};
 ghost use Rattle.c_subset.specs.Spells.{Spells, SpellsNone};
 ghost use Rattle.c_subset.specs.View.{pattern_of, program_of, stmts_of};
 ghost use Rattle.c_subset.specs.declared.fault.CFault.TheVariants as faults;
@@ -34,12 +35,14 @@ use std::alloc::Global;
 /// The text is too deep where a token stands inside more than 128 open braces; round brackets aren't counted. It isn't
 /// in the subset where it isn't too deep and no program spells it. The time is linear in the text's length, but for the
 /// sets of names.
+#[tactic(auto, using(crate::proofs::Fewer::read_few))]
 pub fn read_c(alloc: Global, bytes: &[u8]) -> Result<Program, CFault>
     ensures spelled { IfOk result (λ program. Spells bytes.now (program_of program)) }
     ensures flat { OnOk result (¬ IsTooDeep (tokens_before bytes.now)) }
     ensures too_deep { IsErrOf result faults.TooDeep → IsTooDeep (tokens_before bytes.now) }
     ensures not_subset { IsErrOf result faults.NotSubset → ¬ IsTooDeep (tokens_before bytes.now) }
     ensures none { IsErrOf result faults.NotSubset → SpellsNone bytes.now }
+    ensures few { IfOk result (λ program. statements_in (program_of program).body < 2 ^ 64) }
 {
     if is_too_deep(bytes) {
         return Err(CFault::TooDeep);

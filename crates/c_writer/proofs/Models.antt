@@ -46,7 +46,6 @@ use Rattle.c_fields.proofs.Forms.{value_stands}
 use Rattle.c_writer.specs.Parts.{Parts, set_name, set_members, set_name_of, format_name, format_values_of}
 use Rattle.c_writer.specs.Parts.{assignments_of, extraction_of, named_pattern, parts_of, patterns_in}
 use Rattle.c_writer.specs.Chain.{chain_program}
-use Rattle.c_writer.specs.Decoders.{IsDecoder}
 use Rattle.c_writer.specs.Layout.{layout}
 use Rattle.c_writer.specs.Sound.{IsSoundIn, HaveOneSet, AreSound, OwnKeeps}
 use Rattle.c_writer.specs.SetOrder.{given_before, in_set_order}
@@ -366,22 +365,3 @@ pub trials_of_parts : (sets : List SetDef) (formats : List Format) (ps : List Pa
     → map (λ q. q.trial) (map (named_pattern sets formats) ps) ≡ map (trial_pattern sets formats) ps
 trials_of_parts sets formats [] = refl
 trials_of_parts sets formats (p ∷ ps) = ap (λ l. trial_pattern sets formats p ∷ l) (trials_of_parts sets formats ps)
-
-layout_decodes : (p : Parts) → AreSound p → IsDecoder p.width (layout p) (outside_sets p.sets) (patterns_in p)
-layout_decodes p s = record {
-  program = chain_program p;
-  spells = record { rules = keeps_rules p s; tokens = layout_tokens p s };
-  width_of_words = refl;
-  decodes = λ word outcomes answers small. program_agrees (script outcomes answers) p word 0 small s;
-}
-
--- the text of a sound model decodes its patterns
-pub text_decodes : (options : Options) (model : Model) (text : List ℕ) → IsOptions options
-    → model.width ≡ options.width → IsSound model
-    → text ≡ layout (parts_of options (definitions_in model))
-    → IsDecoder options.width text (outside_sets model.sets) (trial_patterns (definitions_in model))
-text_decodes options model text asked width s is =
-    subst (λ t. IsDecoder options.width t (outside_sets model.sets) (trial_patterns (definitions_in model))) (sym is)
-    (subst (λ (ps : List TrialPattern). IsDecoder options.width (layout (parts_of options (definitions_in model)))
-    (outside_sets model.sets) ps) (trials_of_parts model.sets model.formats model.patterns)
-    (layout_decodes (parts_of options (definitions_in model)) (sound_parts options model asked width s)))
