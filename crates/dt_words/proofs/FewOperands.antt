@@ -12,12 +12,12 @@ use Rattle.dt_words.specs.declared.rows.ValueKind.{ValueKind}
 use Rattle.dt_words.specs.declared.rows.Verb.{Verb}
 use Rattle.dt_words.specs.declared.usage.Usage.{Usage}
 
-here_none : (place : ℕ) (fault : Option Usage) (later : Option (Usage × ℕ)) → at_place place fault later ≡ None
+pub here_none : (place : ℕ) (fault : Option Usage) (later : Option (Usage × ℕ)) → at_place place fault later ≡ None
     → fault ≡ None
 here_none place None later h = refl
 here_none place (Some usage) later h = grind arith
 
-later_none : (place : ℕ) (fault : Option Usage) (later : Option (Usage × ℕ)) → at_place place fault later ≡ None
+pub later_none : (place : ℕ) (fault : Option Usage) (later : Option (Usage × ℕ)) → at_place place fault later ≡ None
     → later ≡ None
 later_none place None later h = h
 later_none place (Some usage) later h = grind arith

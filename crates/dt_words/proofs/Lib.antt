@@ -4,3 +4,8 @@ pub mod LastWord
 pub mod FewOperands
 pub mod OnlyOperands
 pub mod LastSetting
+pub mod OperandWords
+pub mod OperandPlaces
+pub mod NumberPlaces
+pub mod ScriptItems
+pub mod AnswerParts

@@ -1,6 +1,6 @@
 -- What the command words say: a command, or what is wrong with which word.
-use Rattle.std.specs.Prelude.{ℕ, ◌≤◌, Bool, true, false, nat_lt, List, [], ◌∷◌, length, Option, Some, None, is_none}
-use Rattle.std.specs.Prelude.{Result, Ok, Err, codes, if◌then◌else◌}
+use Rattle.std.specs.Prelude.{ℕ, ◌≤◌, Bool, true, false, nat_lt, List, [], ◌∷◌, length, Option, Some, None, is_none, get_or}
+use Rattle.std.specs.Prelude.{◌≡◌, ◌<◌, slice_index, Result, Ok, Err, codes, if◌then◌else◌}
 use Rattle.dt_scope.specs.Options.{IsOptions, default_options}
 use Rattle.dt_scope.specs.declared.options.Options.{Options}
 use Rattle.dt_words.specs.Rows.{verb_of, options_of, least_operands}
@@ -8,10 +8,13 @@ use Rattle.dt_words.specs.Roles.{Role, Anything, roles_of}
 use Rattle.dt_words.specs.Values.{option_name, width_of}
 use Rattle.dt_words.specs.Faults.{first_fault}
 use Rattle.dt_words.specs.Settings.{last_setting, last_value, is_set, text_of}
-use Rattle.dt_words.specs.Operands.{operands}
+use Rattle.dt_words.specs.Numbers.{number_of}
+use Rattle.dt_words.specs.Operands.{operands, operand_at, operand_places}
+use Rattle.dt_words.specs.Scripts.{answers_in, outcomes_in, script_of}
 use Rattle.dt_words.specs.declared.command.Command.{Command}
 use Rattle.dt_words.specs.declared.command.Command.TheVariants as command
 use Rattle.dt_words.specs.declared.rows.TheConstants.{MOST_FILES}
+use Rattle.dt_words.specs.declared.script.Item.{Item}
 use Rattle.dt_words.specs.declared.rows.Verb.{Verb}
 use Rattle.dt_words.specs.declared.rows.Verb.TheVariants as verb
 use Rattle.dt_words.specs.declared.usage.Usage.{Usage}
@@ -46,6 +49,14 @@ options_from roles = record {
   translate_static = is_none (last_value (codes "--translate") roles);
 }
 
+-- the number of the operand WORD
+abbrev pub word_from : List Role → ℕ
+word_from roles = or_default number_of 0 (Some (operand_at 1 roles))
+
+-- the items of the operand SCRIPT
+abbrev pub script_from : List Role → List Item
+script_from roles = or_default script_of [] (Some (operand_at 2 roles))
+
 abbrev pub command_from : Verb → List Role → Command
 command_from verb.Gen roles =
     command.Gen
@@ -53,6 +64,13 @@ command_from verb.Gen roles =
     (last_value (codes "--output") roles)
     (operands roles)
     (is_set (codes "--test-for-error") roles)
+command_from verb.Eval roles =
+    command.Eval
+    (operand_at 0 roles)
+    (word_from roles)
+    (slice_index (operand_places roles) 1)
+    (outcomes_in (script_from roles))
+    (answers_in (script_from roles))
 
 -- the command, where no word is faulty
 abbrev pub unless_missing : Verb → List Role → Result Command (Usage × Option ℕ)
@@ -84,3 +102,14 @@ pub record IsGen (options : Options) (files : List (List ℕ)) : Type 0 where
 
 abbrev pub IsCommand : Command → Type 0
 IsCommand (command.Gen options output files test) = IsGen options files
+IsCommand (command.Eval text word place outcomes answers) = Unit {0}
+
+-- the word at this place is there, and is this number
+pub record IsNumberAt (words : List (List ℕ)) (place word : ℕ) : Type 0 where
+  pub within : place < length words
+  pub number : number_of (get_or words place []) ≡ Some word
+
+-- where a command says that its number stands, there it stands
+abbrev pub IsPlaced : List (List ℕ) → Command → Type 0
+IsPlaced words (command.Gen options output files test) = Unit {0}
+IsPlaced words (command.Eval text word place outcomes answers) = IsNumberAt words place word

@@ -1,6 +1,7 @@
 pub mod Rows
 pub mod Roles
 pub mod Numbers
+pub mod Scripts
 pub mod Values
 pub mod Faults
 pub mod Settings

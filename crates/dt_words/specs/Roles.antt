@@ -32,6 +32,8 @@ takes_value kind.Flag = false
 takes_value kind.Text = true
 takes_value kind.Name = true
 takes_value kind.Width = true
+takes_value kind.Number = true
+takes_value kind.Script = true
 
 abbrev pub is_equals : ℕ → Bool
 is_equals b = b == 61

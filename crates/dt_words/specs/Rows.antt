@@ -18,7 +18,10 @@ abbrev pub row : List ℕ → List ℕ → ValueKind → Row
 row name short kind = record { name = name; short = short; kind = kind }
 
 abbrev pub verb_of : List ℕ → Option Verb
-verb_of name = if is_text name (codes "gen") then Some verb.Gen else None
+verb_of name =
+    if is_text name (codes "gen") then Some verb.Gen
+    else if is_text name (codes "eval") then Some verb.Eval
+    else None
 
 abbrev pub options_of : Verb → List Row
 options_of verb.Gen =
@@ -29,11 +32,14 @@ options_of verb.Gen =
     ∷ row (codes "--output") (codes "-o") kind.Text
     ∷ row (codes "--test-for-error") [] kind.Flag
     ∷ []
+options_of verb.Eval = []
 
 -- what each operand must be, for as many as there may be
 abbrev pub operands_of : Verb → List ValueKind
 operands_of verb.Gen = replicate MOST_FILES kind.Text
+operands_of verb.Eval = kind.Text ∷ kind.Number ∷ kind.Script ∷ []
 
 -- how many operands there must be
 abbrev pub least_operands : Verb → ℕ
 least_operands verb.Gen = 1
+least_operands verb.Eval = 3

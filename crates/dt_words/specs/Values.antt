@@ -8,6 +8,7 @@ use Rattle.dt_fields.specs.CNames.{is_keyword}
 use Rattle.dt_scope.specs.Options.{begins_as_name}
 use Rattle.dt_words.specs.declared.names.TheConstants.{LONGEST_OPTION_NAME}
 use Rattle.dt_words.specs.Numbers.{number_of}
+use Rattle.dt_words.specs.Scripts.{script_of}
 use Rattle.dt_words.specs.declared.rows.ValueKind.{ValueKind}
 use Rattle.dt_words.specs.declared.rows.ValueKind.TheVariants as kind
 use Rattle.dt_words.specs.declared.usage.Usage.{Usage}
@@ -52,3 +53,5 @@ value_fault kind.Flag text = None
 value_fault kind.Text text = None
 value_fault kind.Name text = wrong_unless (option_name text) usage.U8
 value_fault kind.Width text = width_fault (number_of text) (width_of text)
+value_fault kind.Number text = wrong_unless (number_of text) usage.U4
+value_fault kind.Script text = wrong_unless (script_of text) usage.U4

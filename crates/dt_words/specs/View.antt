@@ -10,6 +10,7 @@ use Rattle.dt_words.specs.declared.roles.Role.TheVariants as role
 use Rattle.dt_words.specs.declared.roles.Next.{Next}
 use Rattle.dt_words.specs.declared.roles.Next.TheVariants as next
 use Rattle.dt_words.specs.declared.command.Command.{Command}
+use Rattle.dt_words.specs.declared.command.Command.TheVariants as command
 use Rattle.dt_words.specs.declared.read.WordFault.{WordFault}
 use Rattle.dt_words.specs.declared.read.WordFault.TheVariants as fault
 use Rattle.dt_words.specs.declared.usage.Usage.{Usage}
@@ -45,9 +46,10 @@ abbrev pub setting_seen : Option (Bool × Bor (List ℕ)) → Option (Bool × Li
 setting_seen None = None
 setting_seen (Some setting) = Some (setting.0, setting.1.now)
 
--- a faulty word is one of so many
+-- a faulty word, and the number of an `eval`, is one of so many words
 abbrev pub IsWithin : ℕ → Result Command WordFault → Type 0
-IsWithin n (Ok command) = Unit {0}
+IsWithin n (Ok (command.Gen options output files test)) = Unit {0}
+IsWithin n (Ok (command.Eval text word place outcomes answers)) = place < n
 IsWithin n (Err (fault.Bad usage None)) = Unit {0}
 IsWithin n (Err (fault.Bad usage (Some place))) = place < n
 IsWithin n (Err fault.NoMemory) = Unit {0}

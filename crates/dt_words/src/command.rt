@@ -1,5 +1,6 @@
 //! What the words ask for.
 
+use dt_match::Answer;
 use dt_scope::Options;
 use dt_values::Items;
 use std::marker::Model;
@@ -48,6 +49,12 @@ impl Text {
 /// Texts in order.
 pub type TextList = Items<Text>;
 
+/// Outcomes of calls in order.
+pub type OutcomeList = Items<bool>;
+
+/// Answers of functions in order: of two that fit the first one counts.
+pub type AnswerList = Items<Answer>;
+
 /// What the words ask for.
 #[derive(Debug, Drop)]
 pub enum Command {
@@ -58,5 +65,14 @@ pub enum Command {
         output: Option<Text>,
         files: TextList,
         test: bool,
+    },
+    /// What a C text does with a word, where calls have these outcomes and functions give these answers. `word_place`
+    /// is the place of the word among all words; the command's name has the place 0.
+    Eval {
+        text: Text,
+        word: u64,
+        word_place: usize,
+        outcomes: OutcomeList,
+        answers: AnswerList,
     },
 }

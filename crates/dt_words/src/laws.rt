@@ -1,6 +1,6 @@
 //! Laws of words, and examples: public functions whose contracts are the laws, and whose bodies are empty.
 
-ghost use Rattle.std.specs.Prelude.{◌≡◌, ◌≤◌, ℕ, List, [], ◌∷◌, ◌++◌, Ok, Err, Some, None, false, codes, length};
+ghost use Rattle.std.specs.Prelude.{◌≡◌, ◌≤◌, ℕ, List, [], ◌∷◌, ◌++◌, Ok, Err, Some, None, true, false, pos, negsuc, codes, length};
 ghost use Rattle.std.specs.Option.{option_or};
 ghost use Rattle.dt_scope.specs.Options.{default_options};
 ghost use Rattle.dt_words.specs.Commands.{command_of};
@@ -47,4 +47,28 @@ pub fn law_same_commands()
         ≡ command_of (codes "gen" ∷ codes "t" ∷ codes "-w" ∷ codes "64" ∷ []) }
     ensures decoder { command_of (codes "gen" ∷ codes "--static-decode=a" ∷ codes "t" ∷ codes "--decode=b" ∷ [])
         ≡ command_of (codes "gen" ∷ codes "t" ∷ codes "--decode" ∷ codes "b" ∷ []) }
+{}
+
+/// Words of `eval`, and what they ask for.
+pub fn law_eval_words()
+    ensures no_items { command_of (codes "eval" ∷ codes "c" ∷ codes "0" ∷ codes "-" ∷ [])
+        ≡ Ok (Command.Eval (codes "c") 0 2 [] []) }
+    ensures outcomes { command_of (codes "eval" ∷ codes "-" ∷ codes "--" ∷ codes "0x1F" ∷ codes "t,f,t" ∷ [])
+        ≡ Ok (Command.Eval (codes "-") 31 3 (true ∷ false ∷ true ∷ []) []) }
+    ensures answers { command_of (codes "eval" ∷ codes "c" ∷ codes "0" ∷ codes "2:ex:-7:9,f,0:g:-:-1" ∷ [])
+        ≡ Ok (Command.Eval (codes "c") 0 2 (false ∷ [])
+        (record { calls = 2; function = codes "ex"; arg = Some (negsuc 6); answer = pos 9 }
+        ∷ record { calls = 0; function = codes "g"; arg = None; answer = negsuc 0 }
+        ∷ [])) }
+{}
+
+/// Words of `eval` that are no command, and why.
+pub fn law_faulty_eval_words()
+    ensures no_script { command_of (codes "eval" ∷ codes "c" ∷ codes "0" ∷ []) ≡ Err (Usage.U6, None) }
+    ensures no_number { command_of (codes "eval" ∷ codes "c" ∷ codes "x" ∷ codes "-" ∷ []) ≡ Err (Usage.U4, Some 2) }
+    ensures no_item { command_of (codes "eval" ∷ codes "c" ∷ codes "0" ∷ codes "t,,f" ∷ [])
+        ≡ Err (Usage.U4, Some 3) }
+    ensures too_many { command_of (codes "eval" ∷ codes "c" ∷ codes "0" ∷ codes "-" ∷ codes "d" ∷ [])
+        ≡ Err (Usage.U7, Some 4) }
+    ensures no_option { command_of (codes "eval" ∷ codes "-q" ∷ []) ≡ Err (Usage.U2, Some 1) }
 {}

@@ -11,11 +11,12 @@ pub mod print;
 pub mod read;
 pub mod roles;
 pub mod rows;
+pub mod script;
 pub mod settings;
 pub mod usage;
 pub mod values;
 
-pub use command::{Command, Text, TextList};
+pub use command::{AnswerList, Command, OutcomeList, Text, TextList};
 pub use print::printed_word;
 pub use read::{WordFault, read_words};
 pub use rows::MOST_FILES;

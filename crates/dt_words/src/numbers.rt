@@ -17,7 +17,8 @@ pub fn number_of(text: &[u8]) -> Option<u64>
     }
 }
 
-fn number_in(base: u8, digits: &[u8]) -> Option<u64>
+/// The number below 2^64 that digits of a base are.
+pub fn number_in(base: u8, digits: &[u8]) -> Option<u64>
     requires { (1 ≤ base) × (base ≤ 16) }
     ensures { result ≡ number_in base digits.now }
 {

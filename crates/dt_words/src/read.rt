@@ -1,20 +1,24 @@
 //! From words to a command.
 
-ghost use Rattle.std.specs.Prelude.{◌≡◌, ◌+◌, ◌≤◌, Some, map, length, is_none, IfOk};
+ghost use Rattle.std.specs.Prelude.{◌≡◌, ◌+◌, ◌≤◌, [], Some, Ok, map, length, is_none, IfOk};
 ghost use Rattle.dt_scope.specs.Options.{IsOptionName, IsOptions};
 ghost use Rattle.dt_words.specs.Commands as meant;
 ghost use Rattle.dt_words.specs.Operands.{operands};
+ghost use Rattle.dt_words.specs.Numbers.{number_of};
 ghost use Rattle.dt_words.specs.Rows.{least_operands, operands_of};
+ghost use Rattle.dt_words.specs.Scripts as scripts;
 ghost use Rattle.dt_words.specs.Settings.{text_of};
 ghost use Rattle.dt_words.specs.Values as values;
 ghost use Rattle.dt_words.specs.View.{Answers, IsWithin, role_seen, setting_seen, texts, value_seen};
 
-use crate::command::{Command, Text, TextList};
+use crate::command::{AnswerList, Command, OutcomeList, Text, TextList};
 use crate::faults::first_fault;
 use crate::names::option_name;
-use crate::operands::{copy_of, operands};
+use crate::numbers::number_of;
+use crate::operands::{copy_of, operand_at, operand_place, operands};
 use crate::roles::{Role, roles_of};
 use crate::rows::{Verb, least_operands, options_of, verb_of};
+use crate::script::{no_items, script_of};
 use crate::settings::{is_set, last_setting, last_value};
 use crate::usage::Usage;
 use crate::values::width_of;
@@ -45,6 +49,7 @@ pub fn read_words(alloc: Global, words: &[String]) -> Result<Command, WordFault>
     ensures answer { Answers result (meant.command_of (texts words.now)) }
     ensures within { IsWithin (length words.now) result }
     ensures kept { IfOk result meant.IsCommand }
+    ensures placed { IfOk result (meant.IsPlaced (texts words.now)) }
 {
     let Some((name, words)) = words.split_first() else {
         return Err(WordFault::Bad(Usage::U1, None));
@@ -73,7 +78,7 @@ fn command_with(alloc: Global, verb: Verb, words: &[String]) -> Result<Command, 
 fn unless_missing(alloc: Global, verb: Verb, roles: &[Role<'_>]) -> Result<Command, WordFault>
     requires few { length (operands (map role_seen roles.now)) ≤ length (operands_of verb) }
     ensures answer { Answers result (meant.unless_missing verb (map role_seen roles.now)) }
-    ensures within { IsWithin 0 result }
+    ensures within { IsWithin (length roles.now + 1) result }
     ensures kept { IfOk result meant.IsCommand }
 {
     let operands = operands(alloc, roles)?;
@@ -97,6 +102,7 @@ fn command_from(
     requires few { length (operands (map role_seen roles.now)) ≤ length (operands_of verb) }
     ensures command { IfOk result (λ command. command ≡ meant.command_from verb (map role_seen roles.now)) }
     ensures kept { IfOk result meant.IsCommand }
+    ensures within { IfOk result (λ command. IsWithin (length roles.now + 1) (Ok command)) }
 {
     match verb {
         Verb::Gen => Ok(Command::Gen {
@@ -105,6 +111,40 @@ fn command_from(
             files: TextList::of(given),
             test: is_set(roles, "--test-for-error"),
         }),
+        Verb::Eval => eval_from(alloc, roles, given.as_slice()),
+    }
+}
+
+fn eval_from(alloc: Global, roles: &[Role<'_>], given: &[Text]) -> Result<Command, AllocError>
+    requires given { given.now ≡ operands (map role_seen roles.now) }
+    ensures command { IfOk result (λ command. command ≡ meant.command_from Verb.Eval (map role_seen roles.now)) }
+    ensures kept { IfOk result meant.IsCommand }
+    ensures within { IfOk result (λ command. IsWithin (length roles.now + 1) (Ok command)) }
+{
+    let text = copy_of(alloc, operand_at(given, 0))?;
+    let word = word_of(operand_at(given, 1));
+    let (outcomes, answers) = lists_of(alloc, operand_at(given, 2))?;
+    Ok(Command::Eval {
+        text,
+        word,
+        word_place: operand_place(roles, 1),
+        outcomes,
+        answers,
+    })
+}
+
+fn word_of(text: &str) -> u64
+    ensures { result ≡ meant.or_default number_of 0 (Some text.now) }
+{
+    number_of(text.as_bytes()).unwrap_or(0)
+}
+
+fn lists_of(alloc: Global, text: &str) -> Result<(OutcomeList, AnswerList), AllocError>
+    ensures { IfOk result (λ lists. lists ≡ scripts.lists_of (meant.or_default scripts.script_of [] (Some text.now))) }
+{
+    match script_of(alloc, text)? {
+        Some(lists) => Ok(lists),
+        None => Ok(no_items(alloc)),
     }
 }
 

@@ -197,6 +197,10 @@ fn takes_value(kind: ValueKind) -> bool
 {
     match kind {
         ValueKind::Flag => false,
-        ValueKind::Text | ValueKind::Name | ValueKind::Width => true,
+        ValueKind::Text
+        | ValueKind::Name
+        | ValueKind::Width
+        | ValueKind::Number
+        | ValueKind::Script => true,
     }
 }

@@ -11,6 +11,7 @@ pub const MOST_FILES: usize = 16;
 #[derive(Clone, Copy, Debug)]
 pub enum Verb {
     Gen,
+    Eval,
 }
 
 /// What a word must be that is an operand or an option's value.
@@ -24,6 +25,10 @@ pub enum ValueKind {
     Name,
     /// A width of instruction words.
     Width,
+    /// A number below 2^64.
+    Number,
+    /// Outcomes of calls and answers of functions.
+    Script,
 }
 
 /// An option of a command: its long name, its short one (empty where it has none), and what its value must be.
@@ -67,7 +72,11 @@ const GEN: [Row; 6] = [
     },
 ];
 
+const EVAL: &[Row] = &[];
+
 const FILES: [ValueKind; MOST_FILES] = [ValueKind::Text; MOST_FILES];
+
+const TEXT_WORD_SCRIPT: [ValueKind; 3] = [ValueKind::Text, ValueKind::Number, ValueKind::Script];
 
 /// The command of this name.
 pub fn verb_of(name: &str) -> Option<Verb>
@@ -75,6 +84,7 @@ pub fn verb_of(name: &str) -> Option<Verb>
 {
     match name {
         "gen" => Some(Verb::Gen),
+        "eval" => Some(Verb::Eval),
         _ => None,
     }
 }
@@ -85,6 +95,7 @@ pub fn options_of(verb: Verb) -> &'static [Row]
 {
     match verb {
         Verb::Gen => GEN.as_slice(),
+        Verb::Eval => EVAL,
     }
 }
 
@@ -94,6 +105,7 @@ pub fn operands_of(verb: Verb) -> &'static [ValueKind]
 {
     match verb {
         Verb::Gen => FILES.as_slice(),
+        Verb::Eval => TEXT_WORD_SCRIPT.as_slice(),
     }
 }
 
@@ -103,5 +115,6 @@ pub fn least_operands(verb: Verb) -> usize
 {
     match verb {
         Verb::Gen => 1,
+        Verb::Eval => 3,
     }
 }

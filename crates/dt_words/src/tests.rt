@@ -3,6 +3,7 @@
 
 mod commands;
 mod faulty;
+mod scripts;
 
 use std::alloc::{AllocError, Global};
 

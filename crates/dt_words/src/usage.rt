@@ -11,7 +11,7 @@ pub enum Usage {
     U2,
     /// The words end where an option's value is due.
     U3,
-    /// A number can't be read.
+    /// A number or a script can't be read.
     U4,
     /// A width is another number than 16, 32 and 64.
     U5,

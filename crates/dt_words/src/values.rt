@@ -1,11 +1,12 @@
 //! Values of options and operands.
 
-ghost use Rattle.std.specs.Prelude.{◌≡◌};
+ghost use Rattle.std.specs.Prelude.{◌≡◌, Some, None, if◌then◌else◌};
 ghost use Rattle.dt_words.specs.Values.{value_fault, width_of, width_of_number};
 
 use crate::names::option_name;
 use crate::numbers::number_of;
 use crate::rows::ValueKind;
+use crate::script::is_script;
 use crate::usage::Usage;
 use dt_values::Width;
 
@@ -20,7 +21,16 @@ pub fn value_fault(kind: ValueKind, text: &str) -> Option<Usage>
             None => Some(Usage::U8),
         },
         ValueKind::Width => width_fault(text),
+        ValueKind::Number => wrong_unless(number_of(text.as_bytes()).is_some()),
+        ValueKind::Script => wrong_unless(is_script(text)),
     }
+}
+
+// What can't be read is faulty.
+fn wrong_unless(read: bool) -> Option<Usage>
+    ensures { result ≡ (if read then None else Some Usage.U4) }
+{
+    if read { None } else { Some(Usage::U4) }
 }
 
 fn width_fault(text: &str) -> Option<Usage>

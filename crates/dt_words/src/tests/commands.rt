@@ -12,7 +12,10 @@ fn summary(alloc: Global, command: &Command) -> Result<String, AllocError> {
         output,
         files,
         test,
-    } = command;
+    } = command
+    else {
+        return String::from_str(alloc, "another command");
+    };
     let mut text = format!(in alloc; "{}", options.width.bits())?;
     text.push_str(if options.decode_static {
         " static "

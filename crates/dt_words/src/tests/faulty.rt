@@ -40,7 +40,7 @@ fn the_first_word_is_the_command(rt: HostRuntime) -> Result<(), Fail> {
         ("make", "U1 make"),
         ("Gen t", "U1 Gen"),
         ("generate t", "U1 generate"),
-        ("eval t 0 -", "U1 eval"),
+        ("evaluate t 0 -", "U1 evaluate"),
         ("table --templates=m t", "U1 table"),
         ("disas a b", "U1 disas"),
         ("run a b c", "U1 run"),
