@@ -4,3 +4,5 @@ pub mod Loading
 pub mod Sources
 pub mod Contents
 pub mod Right
+pub mod RunLines
+pub mod Evaluating

@@ -1,9 +1,11 @@
 -- Exactly one thing is due.
-use Rattle.std.proofs.Common.{◌≡◌, ℕ, List, Result, Ok, Err, refl, ap, sym, ◌∙◌}
+use Rattle.std.proofs.Common.{◌≡◌, ℕ, List, [], get_or, Result, Ok, Err, refl, ap, sym, ◌∙◌}
 use Rattle.dt_io.specs.Files.{Files}
 use Rattle.dt_scope.specs.declared.options.Options.{Options}
 use Rattle.dt_tree.proofs.OneVerdict.{one_verdict, some_verdict}
+use Rattle.c_subset.proofs.OneReading.{one_reading, some_reading}
 use Rattle.dt_tool.specs.Due.{Asked, due_of_verdict, IsDueOfFiles, gen_task}
+use Rattle.dt_tool.specs.Evaluations.{Evaluation, due_of_reading, IsDueOfCText, eval_task}
 use Rattle.dt_tool.specs.Inputs.{Unread, inputs_of, texts_in}
 use Rattle.dt_tool.specs.Tasks.{Due, Task, due_of_unread, IsDue, IsDueOfTexts}
 
@@ -24,7 +26,7 @@ of_texts task once (Ok texts) one other h k = once texts one other h k
 
 pub one_due : (task : Task) → IsOnce task → (files : Files) (one other : Due) → IsDue task files one
     → IsDue task files other → one ≡ other
-one_due task once files one other h k = of_texts task once (texts_in (inputs_of files task.names)) one other h k
+one_due task once files one other h k = of_texts task once (texts_in task.limit (inputs_of files task.names)) one other h k
 
 -- and there is one
 abbrev pub IsSome : Task → Type 0
@@ -36,7 +38,7 @@ some_of_texts task some (Err unread) = (due_of_unread unread, refl)
 some_of_texts task some (Ok texts) = some texts
 
 pub some_due : (task : Task) → IsSome task → (files : Files) → (what : Due) × IsDue task files what
-some_due task some files = some_of_texts task some (texts_in (inputs_of files task.names))
+some_due task some files = some_of_texts task some (texts_in task.limit (inputs_of files task.names))
 
 pub gen_once : (asked : Asked) → IsOnce (gen_task asked)
 gen_once asked texts one other h k = of_files asked.options asked.names texts one other h k
@@ -45,3 +47,17 @@ pub gen_some : (asked : Asked) → IsSome (gen_task asked)
 gen_some asked texts =
     let v = some_verdict asked.options texts in
     (due_of_verdict asked.options asked.names texts v.0, record { verdict = v.0; stands = v.1; due = refl })
+
+-- what is due of a C text is one, and there is one
+of_text : (e : Evaluation) (text : List ℕ) (one other : Due) → IsDueOfCText e text one → IsDueOfCText e text other
+    → one ≡ other
+of_text e text one other h k =
+    sym h.due ∙ ap (due_of_reading e) (one_reading text h.reading k.reading h.stands k.stands) ∙ k.due
+
+pub eval_once : (e : Evaluation) → IsOnce (eval_task e)
+eval_once e texts one other h k = of_text e (get_or texts 0 []) one other h k
+
+pub eval_some : (e : Evaluation) → IsSome (eval_task e)
+eval_some e texts =
+    let r = some_reading (get_or texts 0 []) in
+    (due_of_reading e r.0, record { reading = r.0; stands = r.1; due = refl })

@@ -175,13 +175,13 @@ module _ {O E : Type 0} (task : Task) (once : IsOnce task) (run : RunSeen O E) w
     failed_complete (refused message) is failed = inr (inr failed)
     failed_complete (written text) is failed = inr (inr (inl failed))
 
-    missing_due : (files : Files) (file : List ℕ) → texts_in (inputs_of files task.names) ≡ Err (inputs.missing file)
+    missing_due : (files : Files) (file : List ℕ) → texts_in task.limit (inputs_of files task.names) ≡ Err (inputs.missing file)
         → IsDue task files (missing file)
     missing_due files file is = let P : Result (List (List ℕ)) inputs.Unread
         → Type 0 = λ r. IsDueOfTexts task r (missing file) in subst P (sym is) refl
 
     unread_complete : (file : List ℕ) (known : Option Files) → run.outcome ≡ outcomes.ReadFault
-        → IfSome known (λ files. (texts_in (inputs_of files task.names) ≡ Err (inputs.missing file))
+        → IfSome known (λ files. (texts_in task.limit (inputs_of files task.names) ≡ Err (inputs.missing file))
         ⊎ ReadFailed run.folder run.folder_after) → IfSome known (CompletesOver task run)
     unread_complete file None is h = tt
     unread_complete file (Some files) is (inl none) =

@@ -2,6 +2,7 @@
 use Rattle.std.specs.Prelude.{ℕ, ◌≡◌, List, Option}
 use Rattle.dt_fields.specs.declared.rule.Rule.TheVariants as rule
 use Rattle.dt_forms.specs.Models.{definitions_of}
+use Rattle.dt_lines.specs.declared.scan.TheConstants.{LARGEST_FILE}
 use Rattle.dt_scope.specs.declared.options.Options.{Options}
 use Rattle.dt_tree.specs.Verdicts.{Verdict, kept, broken, empty_group, overlapping, IsVerdict}
 use Rattle.c_writer.specs.Layout.{layout}
@@ -37,6 +38,7 @@ pub record IsDueOfFiles (options : Options) (names texts : List (List ℕ)) (wha
 abbrev pub gen_task : Asked → Task
 gen_task asked = record {
   names = asked.names;
+  limit = LARGEST_FILE;
   output = asked.output;
   due = IsDueOfFiles asked.options asked.names;
   besides = IsDecoderOf asked.options;

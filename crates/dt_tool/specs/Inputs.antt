@@ -3,7 +3,6 @@ use Rattle.std.specs.Prelude.{ℕ, ◌≡◌, ◌<◌, nat_lt, List, [], ◌∷�
 use Rattle.std.specs.Prelude.{Result, Ok, Err, if◌then◌else◌}
 use Rattle.std.specs.FinMap as files_by_name
 use Rattle.dt_io.specs.Files.{Files}
-use Rattle.dt_lines.specs.declared.scan.TheConstants.{LARGEST_FILE}
 
 -- a file by its name, with what it holds if it is there
 pub record Input : Type 0 where
@@ -15,13 +14,14 @@ pub data Unread : Type 0 where
   missing : List ℕ → Unread
   too_large : List ℕ → Unread
 
-abbrev pub text_unless : List ℕ → Option (List ℕ) → Result (List ℕ) Unread
-text_unless name None = Err (missing name)
-text_unless name (Some bytes) = if nat_lt LARGEST_FILE (length bytes) then Err (too_large name) else Ok bytes
+-- a file has so many bytes at most
+abbrev pub text_unless : ℕ → List ℕ → Option (List ℕ) → Result (List ℕ) Unread
+text_unless limit name None = Err (missing name)
+text_unless limit name (Some bytes) = if nat_lt limit (length bytes) then Err (too_large name) else Ok bytes
 
 -- what is read of an input
-abbrev pub text_in : Input → Result (List ℕ) Unread
-text_in input = text_unless input.name input.content
+abbrev pub text_in : ℕ → Input → Result (List ℕ) Unread
+text_in limit input = text_unless limit input.name input.content
 
 abbrev pub with_first : Result (List ℕ) Unread → Result (List (List ℕ)) Unread → Result (List (List ℕ)) Unread
 with_first (Err unread) others = Err unread
@@ -29,9 +29,9 @@ with_first (Ok text) (Err unread) = Err unread
 with_first (Ok text) (Ok texts) = Ok (text ∷ texts)
 
 -- what is read of all, up to the first where the reading stops
-abbrev pub texts_in : List Input → Result (List (List ℕ)) Unread
-texts_in [] = Ok []
-texts_in (input ∷ inputs) = with_first (text_in input) (texts_in inputs)
+abbrev pub texts_in : ℕ → List Input → Result (List (List ℕ)) Unread
+texts_in limit [] = Ok []
+texts_in limit (input ∷ inputs) = with_first (text_in limit input) (texts_in limit inputs)
 
 -- the inputs of these names over files that are known
 abbrev pub inputs_of : Files → List (List ℕ) → List Input

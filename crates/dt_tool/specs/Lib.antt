@@ -3,6 +3,8 @@ pub mod Inputs
 pub mod Tasks
 pub mod Due
 pub mod Decoders
+pub mod RunTexts
+pub mod Evaluations
 pub mod View
 pub mod Stops
 pub mod Refusals

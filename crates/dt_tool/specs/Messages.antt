@@ -37,15 +37,27 @@ cannot_write = codes "error: cannot write\n"
 abbrev pub no_memory : List ℕ
 no_memory = codes "error: no memory\n"
 
--- a line about a whole file
-abbrev pub about_file : List ℕ → List ℕ → List ℕ
-about_file prefix file = pieces_text (text prefix ∷ text file ∷ text (codes "\n") ∷ [])
+-- a line about a file, a name or a word
+abbrev pub line_about : List ℕ → List ℕ → List ℕ
+line_about prefix what = pieces_text (text prefix ∷ text what ∷ text (codes "\n") ∷ [])
 
 abbrev pub cannot_read : List ℕ → List ℕ
-cannot_read file = about_file (codes "error: cannot read ") file
+cannot_read file = line_about (codes "error: cannot read ") file
 
 abbrev pub too_large : List ℕ → List ℕ
-too_large file = about_file (codes "error: K0 file too large: ") file
+too_large file = line_about (codes "error: K0 file too large: ") file
+
+abbrev pub too_deep : List ℕ
+too_deep = codes "error: C2 too deep\n"
+
+abbrev pub not_in_subset : List ℕ
+not_in_subset = codes "error: C1 not in the subset\n"
+
+abbrev pub undeclared_set : List ℕ → List ℕ
+undeclared_set set = line_about (codes "error: E2 undeclared set: ") set
+
+abbrev pub word_too_wide : List ℕ → List ℕ
+word_too_wide word = line_about (codes "error: E1 word too wide: ") word
 
 -- the bytes of a token or a name, a number in decimal, the bits of a mask in a hexadecimal digit for each four
 abbrev pub bytes_text : List ℕ → List ℕ

@@ -1,14 +1,16 @@
 -- What a run of the tool promises: each outcome, what is written and said, what stays (docs/COMMANDS.md, "Outcomes").
-use Rattle.std.specs.Prelude.{ℕ, ◌≡◌, ◌≢◌, ◌≤◌, ◌⊎◌, List, Option, Some, None, IfSome, IsSome, Result, Ok, Err}
+use Rattle.std.specs.Prelude.{ℕ, ◌≡◌, ◌≢◌, ◌≤◌, ◌⊎◌, List, [], map, get_or, Option, Some, None, IfSome, IsSome, Result, Ok, Err}
 use Rattle.dt_io.specs.Bytes.{AppendsPart, extend}
 use Rattle.dt_io.specs.Files.{Files, with_file}
 use Rattle.dt_io.specs.Folders.{FolderSeen, ChangeFailed, IsOnlyRead, ReadFailed}
 use Rattle.dt_io.specs.Outputs.{LeavesPart}
 use Rattle.dt_io.specs.Sinks.{SinkSeen, IsOnlyWritten, Reports, WriteFailed}
+use Rattle.dt_match.specs.Scripts.{answer_seen}
 use Rattle.dt_words.specs.declared.command.Command.{Command}
 use Rattle.dt_words.specs.declared.command.Command.TheVariants as command
 use Rattle.dt_words.specs.declared.usage.Usage.{Usage}
 use Rattle.dt_tool.specs.Due.{gen_task}
+use Rattle.dt_tool.specs.Evaluations.{eval_task}
 use Rattle.dt_tool.specs.Messages as said
 use Rattle.dt_tool.specs.Stops.{IsMade, IsRefusal, IsUnread}
 use Rattle.dt_tool.specs.Tasks.{Due, missing, refused, written, Task, IsDue}
@@ -80,7 +82,7 @@ pub record SaysRefusal {O E : Type 0} (task : Task) (run : RunSeen O E) : Type 0
 -- a file where the reading stops is named
 pub record NamesUnread {O E : Type 0} (task : Task) (run : RunSeen O E) : Type 0 where
   pub place : ℕ
-  pub unread : IsUnread run.folder run.folder_after task.names place
+  pub unread : IsUnread task.limit run.folder run.folder_after task.names place
   pub said : Says run (said.cannot_read (said.name_at task.names place))
 
 -- what each outcome means, with what is said for it
@@ -148,9 +150,20 @@ pub record IsRightUsage {O E : Type 0} (message : List ℕ) (run : RunSeen O E) 
 abbrev pub output_named : {F : Type 0} → Result Command F → Option (List ℕ)
 output_named (Err fault) = None
 output_named (Ok (command.Gen options output names test)) = output
+output_named (Ok (command.Eval text word place outcomes answers)) = None
 
 -- the promise of a run with these words, which are this command, or aren't one
 abbrev pub IsRight : {O E : Type 0} → List (List ℕ) → Result Command (Usage × Option ℕ) → RunSeen O E → Type 0
 IsRight words (Err fault) run = IsRightUsage (said.usage_message words fault) run
 IsRight words (Ok (command.Gen options output names test)) run =
     IsRightTask (gen_task (record { options = options; output = output; names = names })) run
+IsRight words (Ok (command.Eval text word place outcomes answers)) run =
+    IsRightTask
+    (eval_task (record {
+      text = text;
+      word = word;
+      given = get_or words place [];
+      outcomes = outcomes;
+      answers = map answer_seen answers;
+    }))
+    run

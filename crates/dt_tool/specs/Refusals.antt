@@ -14,6 +14,8 @@ use Rattle.dt_forms.specs.View.{fault_seen, text_of_file}
 use Rattle.dt_scope.specs.Trees.{Items}
 use Rattle.dt_tree.specs.EmptyGroups.{IsLeastEmpty}
 use Rattle.dt_tree.specs.Refusals.{ShowsFirstKnot}
+use Rattle.c_subset.specs.declared.fault.CFault.{CFault}
+use Rattle.c_subset.specs.declared.fault.CFault.TheVariants as cfaults
 use Rattle.dt_tool.specs.Tasks.{refused}
 use Rattle.dt_tool.specs.Messages as said
 use Rattle.dt_tool.specs.Stops.{Refuses}
@@ -63,3 +65,9 @@ RefusesEntries (stops.ReadFault message) names texts ps items = ⊥
 RefusesEntries (stops.Refused message) names texts ps items =
     NamesEmpty names texts items message.items ⊎ NamesKnot names texts ps items message.items
 RefusesEntries stops.NoMemory names texts ps items = Unit {0}
+
+-- what is said of a C text that no program is read of
+abbrev pub SaysUnreadText : CFault → Stop → Type 0
+SaysUnreadText cfaults.TooDeep stop = SaysThis stop said.too_deep
+SaysUnreadText cfaults.NotSubset stop = SaysThis stop said.not_in_subset
+SaysUnreadText cfaults.NoMemory stop = stop ≡ stops.NoMemory

@@ -18,3 +18,4 @@ exit_status test outcomes.NoMemory = 5
 abbrev pub tests_errors : {F : Type 0} → Result Command F → Bool
 tests_errors (Err fault) = false
 tests_errors (Ok (command.Gen options output files test)) = test
+tests_errors (Ok (command.Eval text word place outcomes answers)) = false

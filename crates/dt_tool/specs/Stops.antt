@@ -3,7 +3,6 @@ use Rattle.std.specs.Prelude.{ℕ, ◌≡◌, ◌<◌, ◌≤◌, ◌⊎◌, Lis
 use Rattle.std.specs.Prelude.{Vec}
 use Rattle.dt_io.specs.Files.{Files, Held, NotHeld}
 use Rattle.dt_io.specs.Folders.{FolderSeen, Missed, ReadFailed}
-use Rattle.dt_lines.specs.declared.scan.TheConstants.{LARGEST_FILE}
 use Rattle.dt_tool.specs.Inputs.{Input, missing, too_large, inputs_of, texts_in, AreSomeInputs}
 use Rattle.dt_tool.specs.Messages as said
 use Rattle.dt_tool.specs.Tasks.{Due, refused, written, Task, IsDue, IsDueOfInputs}
@@ -13,7 +12,7 @@ use Rattle.dt_tool.specs.declared.generate.Stop.TheVariants as stops
 -- a text is what a written one is besides, for what is read of these inputs
 pub record IsBesides (task : Task) (inputs : List Input) (text : List ℕ) : Type 0 where
   pub texts : List (List ℕ)
-  pub read : texts_in inputs ≡ Ok texts
+  pub read : texts_in task.limit inputs ≡ Ok texts
   pub besides : task.besides texts text
 
 -- a text is due for these inputs, with what it is besides
@@ -38,22 +37,23 @@ pub record IsRefusal (task : Task) (files : Option Files) (message : List ℕ) :
   pub some : ForSome task (λ inputs. IsDueOfInputs task inputs (refused message))
 
 -- the reading of files of these names stops at the one at this place, and why; those before it were read
-pub record IsUnread (before after : FolderSeen) (names : List (List ℕ)) (place : ℕ) : Type 0 where
+pub record IsUnread (limit : ℕ) (before after : FolderSeen) (names : List (List ℕ)) (place : ℕ) : Type 0 where
   pub named : place < length names
   pub cause : Missed before after ⊎ ReadFailed before after
   pub stops : IfSome before.files (λ files.
-      (texts_in (inputs_of files names) ≡ Err (missing (said.name_at names place))) ⊎ ReadFailed before after)
-  pub earlier : IfSome before.files (λ files. IsOk (texts_in (inputs_of files (take place names))))
+      (texts_in limit (inputs_of files names) ≡ Err (missing (said.name_at names place))) ⊎ ReadFailed before after)
+  pub earlier : IfSome before.files (λ files. IsOk (texts_in limit (inputs_of files (take place names))))
 
 -- and this is said of it
-pub record SaysUnread (before after : FolderSeen) (names : List (List ℕ)) (message : List ℕ) : Type 0 where
+pub record SaysUnread (limit : ℕ) (before after : FolderSeen) (names : List (List ℕ)) (message : List ℕ)
+    : Type 0 where
   pub place : ℕ
-  pub unread : IsUnread before after names place
+  pub unread : IsUnread limit before after names place
   pub said : message ≡ said.cannot_read (said.name_at names place)
 
 -- why a command makes no text; that memory runs out has no cause
 abbrev pub StopsTask : Task → FolderSeen → FolderSeen → Stop → Type 0
-StopsTask task before after (stops.ReadFault message) = SaysUnread before after task.names message.items
+StopsTask task before after (stops.ReadFault message) = SaysUnread task.limit before after task.names message.items
 StopsTask task before after (stops.Refused message) = IsRefusal task before.files message.items
 StopsTask task before after stops.NoMemory = Unit {0}
 
@@ -79,29 +79,30 @@ pub record SaysUnreadFile (before after : FolderSeen) (file message : List ℕ) 
   pub missing : NotHeld before.files file ⊎ ReadFailed before after
 
 -- why a file wasn't loaded
-abbrev pub StopsLoad : FolderSeen → FolderSeen → List ℕ → Stop → Type 0
-StopsLoad before after file (stops.ReadFault message) = SaysUnreadFile before after file message.items
-StopsLoad before after file (stops.Refused message) =
-    (message.items ≡ said.too_large file) × Held before.files file (λ held. LARGEST_FILE < length held)
-StopsLoad before after file stops.NoMemory = Unit {0}
+abbrev pub StopsLoad : ℕ → FolderSeen → FolderSeen → List ℕ → Stop → Type 0
+StopsLoad limit before after file (stops.ReadFault message) = SaysUnreadFile before after file message.items
+StopsLoad limit before after file (stops.Refused message) =
+    (message.items ≡ said.too_large file) × Held before.files file (λ held. limit < length held)
+StopsLoad limit before after file stops.NoMemory = Unit {0}
 
 -- these are the texts of the files of these names
-pub record AreLoaded (known : Option Files) (names texts : List (List ℕ)) : Type 0 where
+pub record AreLoaded (limit : ℕ) (known : Option Files) (names texts : List (List ℕ)) : Type 0 where
   pub all : length texts ≡ length names
-  pub small : All (λ text. length text ≤ LARGEST_FILE) texts
+  pub small : All (λ text. length text ≤ limit) texts
   pub bytes : All (All (λ b. b < 256)) texts
-  pub held : IfSome known (λ files. texts_in (inputs_of files names) ≡ Ok texts)
+  pub held : IfSome known (λ files. texts_in limit (inputs_of files names) ≡ Ok texts)
 
 -- one of the files is too large, and this is said of it
-pub record SaysTooLarge (known : Option Files) (names : List (List ℕ)) (message : List ℕ) : Type 0 where
+pub record SaysTooLarge (limit : ℕ) (known : Option Files) (names : List (List ℕ)) (message : List ℕ)
+    : Type 0 where
   pub place : ℕ
   pub named : place < length names
   pub stops : IfSome known (λ files.
-      texts_in (inputs_of files names) ≡ Err (too_large (said.name_at names place)))
+      texts_in limit (inputs_of files names) ≡ Err (too_large (said.name_at names place)))
   pub said : message ≡ said.too_large (said.name_at names place)
 
 -- why not all of the files were loaded
-abbrev pub StopsLoading : FolderSeen → FolderSeen → List (List ℕ) → Stop → Type 0
-StopsLoading before after names (stops.ReadFault message) = SaysUnread before after names message.items
-StopsLoading before after names (stops.Refused message) = SaysTooLarge before.files names message.items
-StopsLoading before after names stops.NoMemory = Unit {0}
+abbrev pub StopsLoading : ℕ → FolderSeen → FolderSeen → List (List ℕ) → Stop → Type 0
+StopsLoading limit before after names (stops.ReadFault message) = SaysUnread limit before after names message.items
+StopsLoading limit before after names (stops.Refused message) = SaysTooLarge limit before.files names message.items
+StopsLoading limit before after names stops.NoMemory = Unit {0}

@@ -11,10 +11,11 @@ pub data Due : Type 0 where
   refused : List ℕ → Due
   written : List ℕ → Due
 
--- the files that are read, in order; where a text goes, standard output or the file of this name; what is due for the
+-- the files that are read, in order, and how many bytes one of them has at most; where a text goes, standard output or the file of this name; what is due for the
 -- texts of the files; and what a text that is written is besides
 pub record Task : Type 1 where
   pub names : List (List ℕ)
+  pub limit : ℕ
   pub output : Option (List ℕ)
   pub due : List (List ℕ) → Due → Type 0
   pub besides : List (List ℕ) → List ℕ → Type 0
@@ -30,7 +31,7 @@ IsDueOfTexts task (Err unread) what = what ≡ due_of_unread unread
 IsDueOfTexts task (Ok texts) what = task.due texts what
 
 abbrev pub IsDueOfInputs : Task → List Input → Due → Type 0
-IsDueOfInputs task inputs what = IsDueOfTexts task (texts_in inputs) what
+IsDueOfInputs task inputs what = IsDueOfTexts task (texts_in task.limit inputs) what
 
 -- exactly one is due over known files (the laws `law_one_due` and `law_one_evaluation_due`)
 abbrev pub IsDue : Task → Files → Due → Type 0

@@ -1,7 +1,12 @@
 -- What the code's values stand for.
-use Rattle.std.specs.Prelude.{ℕ, List, Vec, map}
+use Rattle.std.specs.Prelude.{ℕ, List, Vec, map, take}
+use Rattle.dt_match.specs.Hosts.{Call as Called}
+use Rattle.dt_match.specs.Scripts.{answer_seen}
+use Rattle.dt_match.specs.declared.script.Call.{Call}
 use Rattle.dt_tool.specs.Due.{Asked}
+use Rattle.dt_tool.specs.Evaluations.{Evaluation}
 use Rattle.dt_tool.specs.Messages as said
+use Rattle.dt_tool.specs.declared.evaluate.Evaluation.{Evaluation as MadeEvaluation}
 use Rattle.dt_tool.specs.declared.generate.Request.{Request}
 use Rattle.dt_tool.specs.declared.generate.Stop.{Stop}
 use Rattle.dt_tool.specs.declared.generate.Stop.TheVariants as stops
@@ -13,6 +18,15 @@ asked_seen request = record {
   options = request.options.now;
   output = request.output.now;
   names = request.files.now;
+}
+
+abbrev pub evaluation_seen : MadeEvaluation → Evaluation
+evaluation_seen request = record {
+  text = request.text.now;
+  word = request.word;
+  given = request.given.now;
+  outcomes = request.outcomes.now;
+  answers = map answer_seen request.answers.now;
 }
 
 -- the bytes of each file
@@ -29,3 +43,7 @@ abbrev pub message_of : Stop → List ℕ
 message_of (stops.ReadFault message) = message.items
 message_of (stops.Refused message) = message.items
 message_of stops.NoMemory = said.no_memory
+
+-- a call that was kept
+abbrev pub call_seen : Call → Called
+call_seen call = record { name = call.name; values = take call.count call.items }

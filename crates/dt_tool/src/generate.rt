@@ -62,7 +62,7 @@ pub fn generate<D: Folder>(alloc: Global, request: Request, folder: &mut D) -> R
     ensures answer { AnswersTask (gen_task (asked_seen request.entry)) (D.seen folder.old) (D.seen folder.new) result }
     ensures only { IsOnlyRead (D.seen folder.old) (D.seen folder.new) }
 {
-    let files = load_all(alloc, request.files, folder)?;
+    let files = load_all(alloc, request.files, LARGEST_FILE, folder)?;
     text_of_files(alloc, request.options, request.files, files)
 }
 

@@ -20,21 +20,22 @@ use dt_values::Width;
 use dt_words::Text;
 use std::alloc::Global;
 
-/// The bytes of the files, in their order. The reading stops at the first file that isn't there, isn't read or is too
-/// large.
+/// The bytes of the files, in their order. The reading stops at the first file that isn't there, isn't read or has more
+/// than `limit` bytes.
 pub fn load_all<D: Folder>(
     alloc: Global,
     names: &[Text],
+    limit: usize,
     folder: &mut D,
 ) -> Result<Vec<Vec<u8>>, Stop>
     ensures loaded { IfOk result (λ files.
-        AreLoaded (D.seen folder.old).files names.now (contents files.items)) }
-    ensures stop { IfErr result (StopsLoading (D.seen folder.old) (D.seen folder.new) names.now) }
+        AreLoaded limit (D.seen folder.old).files names.now (contents files.items)) }
+    ensures stop { IfErr result (StopsLoading limit (D.seen folder.old) (D.seen folder.new) names.now) }
     ensures only { IsOnlyRead (D.seen folder.old) (D.seen folder.new) }
 {
     let mut files = Vec::new(alloc);
     for name in names {
-        let bytes = load(alloc, name.as_str(), folder)?;
+        let bytes = load(alloc, name.as_str(), limit, folder)?;
         match files.push(bytes) {
             Ok(()) => {}
             Err(_) => return Err(Stop::NoMemory),
@@ -43,15 +44,20 @@ pub fn load_all<D: Folder>(
     Ok(files)
 }
 
-// The bytes of a file.
-fn load<D: Folder>(alloc: Global, name: &str, folder: &mut D) -> Result<Vec<u8>, Stop>
+/// The bytes of a file of at most `limit` bytes.
+pub fn load<D: Folder>(
+    alloc: Global,
+    name: &str,
+    limit: usize,
+    folder: &mut D,
+) -> Result<Vec<u8>, Stop>
     ensures file { IfOk result (λ bytes. Held (D.seen folder.old).files name.now (λ held. bytes.items ≡ held)) }
-    ensures limit { IfOk result (λ bytes. vec_len bytes ≤ LARGEST_FILE) }
+    ensures limit { IfOk result (λ bytes. vec_len bytes ≤ limit) }
     ensures bytes { IfOk result (λ bytes. All (λ b. b < 256) bytes.items) }
-    ensures stop { IfErr result (λ stop. StopsLoad (D.seen folder.old) (D.seen folder.new) name.now stop) }
+    ensures stop { IfErr result (λ stop. StopsLoad limit (D.seen folder.old) (D.seen folder.new) name.now stop) }
     ensures only { IsOnlyRead (D.seen folder.old) (D.seen folder.new) }
 {
-    match read_all(alloc, folder, name, LARGEST_FILE as u64) {
+    match read_all(alloc, folder, name, limit as u64) {
         Ok(bytes) => Ok(bytes),
         Err(LoadFault::Missing | LoadFault::Failed) => {
             Err(read_fault(messages::cannot_read(alloc, name)))

@@ -1,11 +1,13 @@
 //! Makes a C decoder of pattern files.
 #![tactic(auto)]
 
+pub mod evaluate;
 pub mod generate;
 pub mod inputs;
 pub mod laws;
 pub mod messages;
 pub mod run;
+pub mod run_text;
 pub mod status;
 #[cfg(test)]
 mod tests;

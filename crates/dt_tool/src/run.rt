@@ -6,10 +6,12 @@ ghost use Rattle.dt_scope.specs.Options.{IsOptions};
 ghost use Rattle.dt_words.specs.declared.rows.TheConstants.{MOST_FILES};
 ghost use Rattle.dt_tool.specs.Delivery.{Delivers};
 ghost use Rattle.dt_tool.specs.Due.{gen_task};
+ghost use Rattle.dt_tool.specs.Evaluations.{eval_task};
 ghost use Rattle.dt_tool.specs.Messages as said;
 ghost use Rattle.dt_tool.specs.Outcomes.{IsRightTask, run_seen};
-ghost use Rattle.dt_tool.specs.View.{asked_seen, message_of, outcome_of};
+ghost use Rattle.dt_tool.specs.View.{asked_seen, evaluation_seen, message_of, outcome_of};
 
+use crate::evaluate::{Evaluation, evaluate};
 use crate::generate::{Request, Stop, generate};
 use crate::messages;
 use crate::status::Outcome;
@@ -35,6 +37,25 @@ pub fn run_gen<D: Folder, O: Sink, E: Sink>(
 {
     match generate(alloc, request, folder) {
         Ok(text) => deliver(text.as_slice(), request.output, folder, out, err),
+        Err(stop) => report_stop(&stop, err),
+    }
+}
+
+/// Runs the C text, and writes to `out` what it did.
+pub fn run_eval<D: Folder, O: Sink, E: Sink>(
+    alloc: Global,
+    request: Evaluation,
+    folder: &mut D,
+    out: &mut O,
+    err: &mut E,
+) -> Outcome
+    ensures right { IsRightTask (eval_task (evaluation_seen request.entry)) (run_seen result
+        (D.seen folder.old) (D.seen folder.new) (O.seen out.old) (O.seen out.new) (E.seen err.old) (E.seen err.new)) }
+    ensures untouched { result ≢ Outcome.Done → result ≢ Outcome.WriteFault → out.new ≡ out.old }
+    ensures quiet { result ≡ Outcome.Done → err.new ≡ err.old }
+{
+    match evaluate(alloc, request, folder) {
+        Ok(text) => deliver(text.as_slice(), &None, folder, out, err),
         Err(stop) => report_stop(&stop, err),
     }
 }

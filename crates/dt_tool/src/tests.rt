@@ -3,6 +3,9 @@
 mod arguments;
 mod command_line;
 mod definitions;
+mod eval_refusals;
+mod eval_trials;
+mod evaluations;
 mod format_texts;
 mod formats;
 mod group_texts;

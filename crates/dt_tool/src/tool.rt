@@ -9,16 +9,18 @@ ghost use Rattle.dt_tool.specs.Messages as said;
 ghost use Rattle.dt_tool.specs.Outcomes.{IsRight, output_named, run_seen};
 ghost use Rattle.dt_tool.specs.Statuses.{exit_status, tests_errors};
 
+use crate::evaluate::Evaluation;
 use crate::generate::Request;
 use crate::messages;
-use crate::run::run_gen;
+use crate::run::{run_eval, run_gen};
 use crate::status::{Outcome, Status};
 use dt_io::{Folder, Sink, report};
 use dt_words::{Command, Usage, WordFault, read_words};
 use std::alloc::Global;
 
 /// Does what the words say: makes the C decoder of the pattern files that they name, and writes it to `out` or to a
-/// file of the folder. What went wrong is said on `err`, whose own failures change no status.
+/// file of the folder; or runs a C text at a word, and writes to `out` what it did. What went wrong is said on `err`,
+/// whose own failures change no status.
 /// `words` doesn't hold the program's name. All memory is taken before the first byte is written and before a file is
 /// made.
 pub fn tool<D: Folder, O: Sink, E: Sink>(
@@ -51,6 +53,24 @@ pub fn tool<D: Folder, O: Sink, E: Sink>(
                 files: files.items(),
             };
             Status::of(run_gen(alloc, request, folder, out, err), test)
+        }
+        Ok(
+            Command::Eval {
+                text,
+                word,
+                word_place,
+                outcomes,
+                answers,
+            },
+        ) => {
+            let request = Evaluation {
+                text: &text,
+                word,
+                given: words[word_place].as_str(),
+                outcomes: outcomes.items(),
+                answers: answers.items(),
+            };
+            Status::of(run_eval(alloc, request, folder, out, err), false)
         }
         Err(WordFault::Bad(usage, place)) => {
             Status::of(refuse_words(alloc, words, usage, place, err), false)

@@ -8,6 +8,6 @@ abbrev pub invariant-loop-name : goal.invariant-loop-name
 invariant-loop-name g l =
     let before = g.D.Folder.seen l.fn.folder in
     record {
-      loaded : AreLoaded before.files (take l.name-index l.names) (contents l.files.items);
+      loaded : AreLoaded l.limit before.files (take l.name-index l.names) (contents l.files.items);
       only : IsOnlyRead before (g.D.Folder.seen l.folder);
     }
