@@ -13,7 +13,6 @@ use Rattle.c_subset.specs.declared.fault.CFault.{CFault}
 use Rattle.c_subset.specs.declared.fault.CFault.TheVariants as faults
 use Rattle.c_subset.specs.View.{pattern_of}
 use Rattle.dt_tool.specs.Evaluations.{Evaluation, due_of_program, first_undeclared, is_declared, IsDueOfCText}
-use Rattle.dt_tool.specs.Messages as said
 use Rattle.dt_tool.specs.Refusals.{SaysUnreadText}
 use Rattle.dt_tool.specs.Stops.{MakesDue}
 use Rattle.dt_tool.specs.Tasks.{Due}

@@ -1,5 +1,5 @@
 -- The calls that a script kept are those of the run, and so are the lines that are written of them.
-use Rattle.std.proofs.Common.{◌≡◌, ℕ, ◌+◌, ◌-◌, List, [], ◌∷◌, ◌++◌, length, map, flat_map, replicate, refl, ap, ap₂, sym, subst, ◌∙◌}
+use Rattle.std.proofs.Common.{◌≡◌, ℕ, ◌-◌, List, [], ◌∷◌, ◌++◌, length, map, flat_map, replicate, refl, ap, ap₂, sym, subst, ◌∙◌}
 use Rattle.std.proofs.Common.{Option, Some, None}
 use Rattle.std.specs.Prelude.{Bool, ℤ, pos, codes, option_map, unwrap_or}
 use Rattle.std.proofs.Math.Seq.{take-append_seam}
