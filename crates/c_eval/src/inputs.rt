@@ -1,11 +1,13 @@
 //! What expressions read in an extraction, and in the decoder.
 
 ghost use Rattle.std.specs.Prelude.{◌≡◌, ◌≤◌, length, option_map};
+ghost use Rattle.c_eval.specs.LiveSet.{live_seen};
+ghost use Rattle.c_eval.specs.Runs.{held_of};
+ghost use Rattle.c_subset.specs.View.{program_of};
 
 use crate::declared::Setting;
 use crate::expr::Inputs;
 use crate::live::Live;
-use crate::steps::held_of;
 use dt_match::Host;
 use dt_values::{Member, Name};
 
@@ -47,9 +49,7 @@ pub struct InDecoder<'a, H> {
 }
 
 impl<'a, H: Host> Inputs for InDecoder<'a, H> {
-    ghost use Rattle.c_eval.specs.LiveSet.{live_seen};
     ghost use Rattle.c_eval.specs.Runs.{in_decoder};
-    ghost use Rattle.c_subset.specs.View.{program_of};
 
     ghost held = { λ s. in_decoder
         (option_map (live_seen (program_of s.setting.now.program.now) s.setting.now.outside.now) s.live.now) };
@@ -65,5 +65,23 @@ impl<'a, H: Host> Inputs for InDecoder<'a, H> {
 
     fn answer(&self, name: Name, argument: Option<i32>) -> i32 {
         self.host.function(name, argument)
+    }
+}
+
+// What an argument of this set holds. None where it is lost, or the set isn't live.
+#[tactic(auto, using(crate::proofs::LiveTurns::arguments_are))]
+fn held_of(setting: &Setting, live: &Option<Live>, set: Name, name: Name) -> Option<i128>
+    ensures { result ≡ held_of (option_map (live_seen (program_of setting.now.program.now) setting.now.outside.now)
+        live.now) set name }
+{
+    let Some(live) = live else {
+        return None;
+    };
+    if set != live.set {
+        return None;
+    }
+    match setting.members(live.set) {
+        Some(members) => live.held(members, name),
+        None => None,
     }
 }

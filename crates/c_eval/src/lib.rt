@@ -18,6 +18,3 @@ pub mod turn;
 pub use load::{Bytes, run_load};
 pub use run::{Ran, run_decode};
 pub use turn::Ended;
-
-#[cfg(test)]
-mod tests;

@@ -11,14 +11,14 @@ use c_subset::{LoadBlock, Program};
 use dt_values::{Width, deposit};
 
 /// The bytes at the place of an instruction, and how many of them are loaded.
-#[derive(Clone, Copy, Debug, PartialEq, Eq)]
+#[derive(Clone, Copy, PartialEq, Eq)]
 pub struct Bytes {
     pub items: [u8; 8],
     pub loaded: u8,
 }
 
 /// The word so far, and how many bytes are loaded.
-#[derive(Clone, Copy, Debug, PartialEq, Eq)]
+#[derive(Clone, Copy, PartialEq, Eq)]
 pub struct Loaded {
     pub word: u64,
     pub bytes: u8,

@@ -15,7 +15,7 @@ use dt_fields::SetDef;
 use dt_match::Host;
 
 /// How a run ended, and how many tests it made.
-#[derive(Clone, Copy, Debug, PartialEq, Eq)]
+#[derive(Clone, Copy, PartialEq, Eq)]
 pub struct Ran {
     pub ended: Ended,
     pub tests: u64,

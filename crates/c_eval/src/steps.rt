@@ -243,24 +243,6 @@ fn live_set(live: &Option<Live>, set: Name) -> Live
     }
 }
 
-/// What an argument of this set holds. None where it is lost, or the set isn't live.
-#[tactic(auto, using(crate::proofs::LiveTurns::arguments_are))]
-pub(crate) fn held_of(setting: &Setting, live: &Option<Live>, set: Name, name: Name) -> Option<i128>
-    ensures { result ≡ held_of (option_map (live_seen (program_of setting.now.program.now) setting.now.outside.now)
-        live.now) set name }
-{
-    let Some(live) = live else {
-        return None;
-    };
-    if set != live.set {
-        return None;
-    }
-    match setting.members(live.set) {
-        Some(members) => live.held(members, name),
-        None => None,
-    }
-}
-
 // What a call hands over. None where it is stuck.
 fn values_of_call<'a>(
     setting: &Setting<'a>,

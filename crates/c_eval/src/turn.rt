@@ -6,7 +6,7 @@ ghost use Rattle.c_eval.specs.Turns.{after_call, live_turn, one_more, tested};
 use crate::live::Live;
 
 /// How a run ended.
-#[derive(Clone, Copy, Debug, PartialEq, Eq)]
+#[derive(Clone, Copy, PartialEq, Eq)]
 pub enum Ended {
     True,
     False,

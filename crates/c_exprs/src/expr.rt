@@ -3,7 +3,7 @@
 use dt_values::Name;
 
 /// Where bits come from.
-#[derive(Clone, Copy, Debug, PartialEq, Eq)]
+#[derive(Clone, Copy, PartialEq, Eq)]
 pub enum Input {
     /// The word, `insn`.
     Insn,
@@ -13,7 +13,6 @@ pub enum Input {
 
 /// An expression. N is 64 where a word has 64 bits, and else 32. Which expressions stand in which is `HasForm` of
 /// specs/Forms.antt; the type itself allows more.
-#[derive(Debug)]
 pub enum Expr {
     /// A decimal number.
     Constant(i64),

@@ -11,6 +11,3 @@ mod segment;
 pub use assign::{assignment_at, set_assignment_at};
 pub use expr::{Expr, Input};
 pub use read::expr_at;
-
-#[cfg(test)]
-mod tests;

@@ -7,6 +7,3 @@ pub mod laws;
 mod parts;
 
 pub use assignment::write_assignment;
-
-#[cfg(test)]
-mod tests;

@@ -14,7 +14,7 @@ use dt_values::{Name, Width};
 use std::alloc::Global;
 
 /// What is declared before the decoder's body, as the program's fields of these names say it.
-#[derive(Debug, Drop)]
+#[derive(Drop)]
 pub(crate) struct Declared {
     pub sets: SetList,
     pub prefix: Option<(Name, bool)>,

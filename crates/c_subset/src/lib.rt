@@ -9,13 +9,13 @@ mod joined;
 pub mod laws;
 mod lines;
 pub mod load;
-mod loads;
+pub mod loads;
 mod patterns;
 pub mod program;
 pub mod read;
 mod sets;
 pub mod sites;
-mod stmts;
+pub mod stmts;
 mod switches;
 
 pub use c_exprs::{Expr, Input};
@@ -26,16 +26,3 @@ pub use program::{
 };
 pub use read::read_c;
 pub use sites::call_sites;
-
-#[cfg(test)]
-mod program_tests;
-#[cfg(test)]
-mod tests;
-#[cfg(test)]
-mod tests_declarations;
-#[cfg(test)]
-mod tests_loads;
-#[cfg(test)]
-mod tests_read;
-#[cfg(test)]
-mod tests_stmts;

@@ -1,7 +1,7 @@
 //! The load function of a program.
 
 /// A block of the load function. It ends with `return insn;`.
-#[derive(Debug, Drop)]
+#[derive(Drop)]
 pub struct LoadBlock {
     /// `insn = F_load_bytes(ctx, insn, FROM, TO);` where bytes are loaded, with F the decoder's name.
     pub load: Option<(u32, u32)>,

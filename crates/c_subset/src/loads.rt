@@ -293,7 +293,7 @@ fn some_load_at(
 /// The load function, where a token is left, with the decoder's name and static or not. Inside its own braces others
 /// nest no deeper than the number.
 #[tactic(auto, unfolding(crate::specs::LoadParsing::load_function_at))]
-pub(crate) fn load_function_at(
+pub fn load_function_at(
     alloc: Global,
     width: Width,
     decoder: &Name,

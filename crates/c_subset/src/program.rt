@@ -18,7 +18,7 @@ pub type PatternList = Items<(Name, Name)>;
 pub type AssignList = Items<(Name, Expr)>;
 
 /// The extraction of a format: a function that fills an argument set, by assignments in this order.
-#[derive(Debug, Drop)]
+#[derive(Drop)]
 pub struct Extract {
     pub format: Name,
     pub set: Name,
@@ -29,7 +29,7 @@ pub struct Extract {
 pub type ExtractList = Items<Extract>;
 
 /// A statement of the decoder.
-#[derive(Debug, Drop)]
+#[derive(Drop)]
 pub enum Stmt {
     /// `if ((insn & MASK) == VALUE) { .. }`, with the mask and then the value.
     If(u64, u64, Vec<Stmt>),
@@ -48,7 +48,7 @@ pub type Body = Items<Stmt>;
 
 /// A program of the C subset. The rules that it keeps are `KeepsRules` of specs/Keeps.antt; the type itself allows
 /// more.
-#[derive(Debug, Drop)]
+#[derive(Drop)]
 pub struct Program {
     /// The width of an instruction word.
     pub width: Width,

@@ -28,7 +28,7 @@ use std::alloc::Global;
 
 /// What statements are read with.
 #[derive(Clone, Copy)]
-pub(crate) struct Scope {
+pub struct Scope {
     /// The width of an instruction word.
     pub width: Width,
     /// The decoder's name.
@@ -198,7 +198,7 @@ fn inner_at(
 
 /// The statements that stand first, whose braces nest no deeper than the number.
 #[tactic(auto, unfolding(crate::specs::StmtParsing::stmts_at))]
-pub(crate) fn stmts_at(
+pub fn stmts_at(
     alloc: Global,
     scope: &Scope,
     braces: u32,

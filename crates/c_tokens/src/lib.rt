@@ -18,6 +18,3 @@ pub use front::{hexadecimal_at, name_at, name_behind_at, number_at};
 pub use read::tokens;
 pub use token::Token;
 pub use words::{decimal_of, hexadecimal_of, name_behind};
-
-#[cfg(test)]
-mod tests;

@@ -1,7 +1,7 @@
 //! Tokens of a C text.
 
 /// A token. A word is a part of the text's bytes.
-#[derive(Clone, Copy, Debug)]
+#[derive(Clone, Copy)]
 pub enum Token<'a> {
     /// As many letters, digits and underscores as stand in a row.
     Word(&'a [u8]),

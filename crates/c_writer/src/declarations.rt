@@ -2,11 +2,10 @@
 
 ghost use Rattle.std.specs.Prelude.{◌≡◌, [], All, filter, flat_map, map, if◌then◌else◌};
 ghost use Rattle.dt_text.specs.Puts.{Puts};
-ghost use Rattle.c_subset.specs.Programs.{word_type};
 ghost use Rattle.c_eval.specs.Meaning.{helper_bits};
 ghost use Rattle.c_writer.specs.Layout.{extraction_head_line, extraction_lines, head_line, member_line};
 ghost use Rattle.c_writer.specs.Layout.{prototype_line, prototype_lines};
-ghost use Rattle.c_writer.specs.Layout.{set_end_line, set_head_line, set_lines, static_text, typed_line, typedef_line};
+ghost use Rattle.c_writer.specs.Layout.{set_end_line, set_head_line, set_lines, typed_line, typedef_line};
 ghost use Rattle.c_writer.specs.Parts.{extraction_of, prefix_in};
 ghost use Rattle.c_writer.specs.Prototypes.{prototype_seen};
 ghost use Rattle.c_writer.specs.Uses.{declared_sets, is_among};
@@ -14,8 +13,8 @@ ghost use Rattle.c_writer.specs.Within.{AreFormsWithin, FormatHasRoom, IsFormatW
 
 use crate::assignments::write_assignments;
 use crate::names::{set_members, set_name};
+use crate::pieces::{word_type, write_close_line, write_static};
 use crate::prototype::Prototype;
-use crate::statements::write_close_line;
 use dt_fields::SetDef;
 use dt_forms::{Format, Options};
 use dt_text::{Out, Part, write_parts};
@@ -26,27 +25,6 @@ pub fn write_head<W: Out>(out: &mut W)
     ensures { Puts (W.state out.old) (W.state out.new) head_line }
 {
     write_parts(out, &[Part::Text(b"/* Made from pattern files. */\n")]);
-}
-
-/// Writes `static ` where that is said.
-#[tactic(auto, using(dt_text::proofs::Putting::puts_nothing))]
-pub fn write_static<W: Out>(out: &mut W, is_static: bool)
-    ensures { Puts (W.state out.old) (W.state out.new) (static_text is_static) }
-{
-    if is_static {
-        write_parts(out, &[Part::Text(b"static ")]);
-    }
-}
-
-/// The C type of an instruction word.
-pub fn word_type(width: Width) -> &'static [u8]
-    ensures { result.now ≡ word_type width }
-{
-    match width {
-        Width::W16 => b"uint16_t",
-        Width::W32 => b"uint32_t",
-        Width::W64 => b"uint64_t",
-    }
 }
 
 fn write_set_head<W: Out>(out: &mut W)

@@ -6,7 +6,7 @@ ghost use Rattle.dt_forms.specs.Models.{definitions_in};
 ghost use Rattle.dt_forms.specs.View.{pattern_seen};
 ghost use Rattle.c_tokens.specs.Words.{hex_length};
 ghost use Rattle.c_eval.specs.Meaning.{helper_bits};
-ghost use Rattle.c_writer.specs.Layout.{body_lines, call_line, close_line, comment_line, decoder_head_lines};
+ghost use Rattle.c_writer.specs.Layout.{body_lines, call_line, comment_line, decoder_head_lines};
 ghost use Rattle.c_writer.specs.Layout.{empty_line, end_lines, extract_line, head_of_decoder, if_line};
 ghost use Rattle.c_writer.specs.Layout.{own_lines, pattern_lines, test_lines, union_end_lines, union_head_line};
 ghost use Rattle.c_writer.specs.Layout.{union_lines, union_set_line, union_where_patterns};
@@ -15,8 +15,8 @@ ghost use Rattle.c_writer.specs.Uses.{is_among};
 ghost use Rattle.c_writer.specs.Within.{AreWithin, IsPatternWithin, PatternHasRoom};
 
 use crate::assignments::write_assignments;
-use crate::declarations::{word_type, write_static};
 use crate::names::{format_of, members_of, set_of};
+use crate::pieces::{word_type, write_close_line, write_static};
 use dt_fields::SetDef;
 use dt_forms::{Model, Options, Pattern};
 use dt_text::{Out, Part, write_parts};
@@ -254,12 +254,6 @@ fn write_if_line<W: Out>(out: &mut W, digits: u32, level: u32, mask: u64, value:
             Part::Text(b") {\n"),
         ],
     );
-}
-
-pub fn write_close_line<W: Out>(out: &mut W, level: u32)
-    ensures { Puts (W.state out.old) (W.state out.new) (close_line level) }
-{
-    write_parts(out, &[Part::Spaces(level), Part::Text(b"}\n")]);
 }
 
 // The body of a pattern behind its test.

@@ -8,7 +8,7 @@ use smallvec::SmallVec;
 use std::alloc::{AllocError, Global};
 
 /// A field: its segments, and the function that its value is handed to, if there is one.
-#[derive(Debug, Drop)]
+#[derive(Drop)]
 pub struct FieldDef {
     pub segments: Segments,
     pub function: Option<Name>,

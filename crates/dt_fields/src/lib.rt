@@ -27,6 +27,3 @@ pub use segment::{MOST_SEGMENTS, Segment, Segments};
 pub use set::{MOST_ARGUMENTS, MemberList, SetDef};
 pub use set_lines::args_line;
 pub use sets::Sets;
-
-#[cfg(test)]
-mod tests;

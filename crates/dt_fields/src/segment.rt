@@ -15,7 +15,7 @@ pub const MOST_SEGMENTS: usize = 16;
 
 /// A part of a field. `length` is a number of bits. `signed` says that an `s` stands before it: a field has a sign, which
 /// is its most significant bit, where its first segment is signed.
-#[derive(Clone, Copy, Debug, PartialEq, Eq)]
+#[derive(Clone, Copy, PartialEq, Eq)]
 pub enum Segment {
     /// Bits of the word. `pos` is the place of the lowest, counted from 0 at the least significant end.
     Bits {
@@ -47,7 +47,7 @@ impl Default for Segment {
 }
 
 /// The segments of a field, the most significant first. Contracts see the list of them.
-#[derive(Debug, Drop)]
+#[derive(Drop)]
 pub struct Segments {
     items: SmallVec<Segment, 4, Global>,
 }

@@ -1,5 +1,8 @@
 //! Argument sets.
 
+ghost use Rattle.std.specs.Prelude.{◌≡◌};
+ghost use Rattle.dt_fields.specs.SetLines.{has_member};
+
 use dt_values::{Items, Member, Name};
 
 /// The most arguments that a set has.
@@ -9,9 +12,16 @@ pub const MOST_ARGUMENTS: usize = 32;
 pub type MemberList = Items<Member>;
 
 /// An argument set. `outside` says that its struct is declared elsewhere, by `!extern`.
-#[derive(Debug, Drop)]
+#[derive(Drop)]
 pub struct SetDef {
     pub name: Name,
     pub members: MemberList,
     pub outside: bool,
+}
+
+/// Whether an argument has this name.
+pub fn has_member(members: &[Member], name: &Name) -> bool
+    ensures { result ≡ has_member members.now name.now }
+{
+    members.iter().any(|member| *name == member.name)
 }

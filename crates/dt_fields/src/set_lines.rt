@@ -14,7 +14,7 @@ use crate::fault::{DefFault, Detail, refuse};
 use crate::head::{marked_name, split_line};
 use crate::number::is_keyword;
 use crate::rule::Rule;
-use crate::set::{MOST_ARGUMENTS, MemberList, SetDef};
+use crate::set::{MOST_ARGUMENTS, MemberList, SetDef, has_member};
 use crate::set_tokens::{SetToken, set_token};
 use crate::sets::Sets;
 use dt_lines::{Logical, Span};
@@ -142,13 +142,6 @@ fn read_argument(draft: &mut SetDraft, token: Span, member: Member) -> Result<()
     refuse(count >= MOST_ARGUMENTS, Rule::A5, Detail::Text(token))?;
     draft.members.push(Member { ctype, name })?;
     Ok(())
-}
-
-/// Whether an argument has this name.
-pub fn has_member(members: &[Member], name: &Name) -> bool
-    ensures { result ≡ has_member members.now name.now }
-{
-    members.iter().any(|member| *name == member.name)
 }
 
 // Refuses a name that a set or a pattern has.

@@ -6,8 +6,7 @@ ghost use Rattle.dt_fields.specs.Arguments.{IsAmong, has_argument};
 ghost use Rattle.dt_fields.specs.SetLines.{has_member};
 ghost use Rattle.dt_fields.specs.SetsByName.{place_of_set, set_at};
 
-use crate::set::SetDef;
-use crate::set_lines::has_member;
+use crate::set::{SetDef, has_member};
 use dt_values::{Member, Name};
 use indexmap::{IndexMap, IndexSet};
 use std::alloc::{AllocError, Global};

@@ -7,7 +7,7 @@ use Rattle.std.proofs.lemmas.List.{get_or_append_left, get_or_push, length_push}
 use Rattle.dt_lines.specs.Lines.{logical_lines, physical_lines}
 use Rattle.dt_lines.specs.Spans.{line_seen, logical_spans, AreSpans}
 use Rattle.dt_lines.specs.declared.line.Logical.{Logical}
-use Rattle.dt_lines.specs.declared.scan.TheConstants.{LARGEST_FILE}
+use Rattle.dt_lines.specs.declared.limits.TheConstants.{LARGEST_FILE}
 use Rattle.dt_forms.specs.declared.source.Source.{Source}
 use Rattle.dt_forms.specs.Sources.{IsSourceAt, AreSources}
 

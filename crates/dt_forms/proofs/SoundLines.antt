@@ -34,7 +34,7 @@ use Rattle.dt_forms.specs.declared.head.Head.TheVariants as head
 use Rattle.dt_scope.specs.declared.gather.Gathered.{Gathered}
 use Rattle.dt_forms.specs.declared.infer.Choice.{Choice}
 use Rattle.dt_scope.specs.declared.options.Options.{Options}
-use Rattle.dt_forms.specs.declared.reader.TheConstants.{MOST_DEPTH, MOST_PATTERNS}
+use Rattle.dt_forms.specs.declared.limits.TheConstants.{MOST_DEPTH, MOST_PATTERNS}
 use Rattle.dt_scope.specs.Bits.{bits_at_top, is_partial}
 use Rattle.dt_scope.specs.ElementRows.{element_faults}
 use Rattle.dt_scope.specs.FormatsByName.{is_format}

@@ -12,7 +12,7 @@ use Rattle.dt_scope.specs.declared.form.Format.{Format}
 use Rattle.dt_scope.specs.declared.form.Pattern.{Pattern}
 use Rattle.dt_forms.specs.declared.model.Model.{Model}
 use Rattle.dt_scope.specs.declared.options.Options.{Options}
-use Rattle.dt_forms.specs.declared.reader.TheConstants.{MOST_FILES, MOST_PATTERNS}
+use Rattle.dt_forms.specs.declared.limits.TheConstants.{MOST_FILES, MOST_PATTERNS}
 use Rattle.dt_forms.specs.FileLines.{FileLine, all_lines}
 use Rattle.dt_forms.specs.Models.{Definitions, IsModelOf, definitions_in, definitions_of, flat_list}
 use Rattle.dt_scope.specs.Options.{IsOptionName}

@@ -1,7 +1,7 @@
 -- What pattern files break first: faults of whole files, then the rules of lines (docs/COMMANDS.md, "Rules").
 use Rattle.std.specs.Prelude.{ℕ, ◌≡◌, ◌+◌, ◌<◌, List, [], ◌∷◌, length, get_or, Option, None}
 use Rattle.std.specs.Option.{option_map, option_or}
-use Rattle.dt_lines.specs.declared.scan.TheConstants.{MOST_LINES}
+use Rattle.dt_lines.specs.declared.limits.TheConstants.{MOST_LINES}
 use Rattle.dt_lines.specs.Faults.{FileFault, too_many_lines, long_name, line_fault}
 use Rattle.dt_lines.specs.declared.fault.LineFault.{LineFault}
 use Rattle.dt_lines.specs.declared.fault.LineFault.TheVariants as of_lines

@@ -11,7 +11,7 @@ use Rattle.dt_fields.specs.declared.set.SetDef.{SetDef}
 use Rattle.dt_scope.specs.declared.form.Format.{Format}
 use Rattle.dt_scope.specs.declared.form.Pattern.{Pattern}
 use Rattle.dt_forms.specs.declared.model.Model.{Model}
-use Rattle.dt_forms.specs.declared.reader.TheConstants.{MOST_PATTERNS}
+use Rattle.dt_forms.specs.declared.limits.TheConstants.{MOST_PATTERNS}
 use Rattle.dt_scope.specs.declared.value.FieldValue.{FieldValue}
 use Rattle.dt_scope.specs.declared.value.FieldValue.TheVariants.{Field, Constant}
 use Rattle.dt_fields.specs.SoundFields.{IsSoundField}

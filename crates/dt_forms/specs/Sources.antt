@@ -2,7 +2,7 @@
 use Rattle.std.specs.Prelude.{◌≡◌, ◌<◌, ◌≤◌, ℕ, List, length, get_or, map, All}
 use Rattle.dt_lines.specs.Lines.{logical_lines, physical_lines}
 use Rattle.dt_lines.specs.Spans.{line_seen, logical_spans, AreSpans}
-use Rattle.dt_lines.specs.declared.scan.TheConstants.{LARGEST_FILE}
+use Rattle.dt_lines.specs.declared.limits.TheConstants.{LARGEST_FILE}
 use Rattle.dt_forms.specs.declared.source.Source.{Source}
 
 -- the lines are those of the file's bytes, with their tokens where they lie, as the file at this place has them; the

@@ -7,7 +7,7 @@ use dt_scope::Kind;
 use dt_values::Name;
 
 /// What a line is by its first token.
-#[derive(Clone, Copy, Debug, PartialEq, Eq)]
+#[derive(Clone, Copy, PartialEq, Eq)]
 pub enum Head {
     /// `{` or `[`.
     Opens(Kind),

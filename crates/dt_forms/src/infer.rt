@@ -16,7 +16,7 @@ ghost use Rattle.dt_forms.specs.Inference.{has_new_argument, inferred_choice, is
 ghost use Rattle.dt_forms.specs.Inference.{name_where, named_choice, named_place, set_chosen, set_of_format};
 
 use crate::same_field::same_value;
-use dt_fields::set_lines::has_member;
+use dt_fields::set::has_member;
 use dt_fields::{SetDef, Sets};
 use dt_scope::gather::{Gathered, has_value};
 use dt_scope::{FieldValue, Format, Formats, Options};
@@ -26,7 +26,7 @@ use std::alloc::{AllocError, Global};
 
 /// What a line takes: the number of its set and of its format, and the names of those that are inferred anew. The format
 /// of a format's line is itself.
-#[derive(Clone, Copy, Debug, PartialEq, Eq)]
+#[derive(Clone, Copy, PartialEq, Eq)]
 pub struct Choice {
     pub set: u32,
     pub format: u32,

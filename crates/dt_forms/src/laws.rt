@@ -4,7 +4,7 @@ ghost use Rattle.std.specs.Prelude.{◌≡◌, ◌<◌, ◌≤◌, ◌^◌, ℕ,
 ghost use Rattle.dt_values.specs.Widths.{width_bits};
 ghost use Rattle.dt_fields.specs.declared.field.FieldDef.{FieldDef};
 ghost use Rattle.dt_scope.specs.declared.options.Options.{Options};
-ghost use Rattle.dt_forms.specs.declared.reader.TheConstants.{MOST_FILES};
+ghost use Rattle.dt_forms.specs.declared.limits.TheConstants.{MOST_FILES};
 ghost use Rattle.dt_forms.specs.FileFaults.{HaveNoFileFault, file_fault, first_broken};
 ghost use Rattle.dt_forms.specs.Inference.{same_field};
 ghost use Rattle.dt_forms.specs.Models.{flat_list, marks_in_files};

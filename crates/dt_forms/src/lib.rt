@@ -7,6 +7,7 @@ mod head;
 mod infer;
 mod inferred;
 pub mod laws;
+pub mod limits;
 mod line_arguments;
 mod line_bits;
 mod line_names;
@@ -24,10 +25,8 @@ pub use dt_scope::{
     ValueList,
 };
 pub use fault::{Fault, ModelFault};
+pub use limits::{MOST_DEPTH, MOST_FILES, MOST_PATTERNS};
 pub use model::{Model, SetList};
 pub use position::first_token;
-pub use reader::{MOST_DEPTH, MOST_FILES, MOST_PATTERNS, read_model};
+pub use reader::read_model;
 pub use source::{ByteList, LineList, Source};
-
-#[cfg(test)]
-mod tests;

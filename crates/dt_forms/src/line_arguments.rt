@@ -5,7 +5,7 @@ ghost use Rattle.dt_fields.specs.View.{DefBroken};
 ghost use Rattle.dt_forms.specs.LineArguments.{argument_rows, format_argument_rows, missing_argument, missing_rows};
 ghost use Rattle.dt_forms.specs.LineArguments.{outside_argument, outside_rows, shared_argument, shared_rows};
 
-use dt_fields::set_lines::has_member;
+use dt_fields::set::has_member;
 use dt_fields::{DefFault, Detail, Rule, Sets};
 use dt_scope::FieldValue;
 use dt_scope::gather::has_value;

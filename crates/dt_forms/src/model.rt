@@ -9,7 +9,7 @@ pub type SetList = Items<SetDef>;
 
 /// What pattern files define: the width of a word; whether words have several widths; the sets, formats and
 /// patterns in order of definition; and the patterns again with the groups that they stand in.
-#[derive(Debug, Drop)]
+#[derive(Drop)]
 pub struct Model {
     pub width: Width,
     pub variable: bool,

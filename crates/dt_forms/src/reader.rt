@@ -23,6 +23,7 @@ ghost use Rattle.dt_forms.specs.View.{FileBroken, ModelBroken, fault_at, texts_o
 use crate::fault::{Fault, ModelFault};
 use crate::format_line::add_format_line;
 use crate::head::{Head, head_of};
+use crate::limits::MOST_FILES;
 use crate::model::{Model, SetList};
 use crate::pattern_line::add_pattern_line;
 use crate::position::span_of_line;
@@ -32,15 +33,6 @@ use dt_fields::{DefFault, Detail, Rule};
 use dt_lines::{Logical, Position, Span};
 use dt_scope::{EntryList, FormatList, Kind, Opening, Options, PatternList, Scope};
 use std::alloc::{AllocError, Global};
-
-/// The most patterns that all files may have.
-pub const MOST_PATTERNS: usize = 8192;
-
-/// The most groups that stand inside one another.
-pub const MOST_DEPTH: usize = 16;
-
-/// The most files of one decoder.
-pub const MOST_FILES: usize = 16;
 
 /// The model of these files, each read as the source at its place, from 0. Broken has a fault of the least line that
 /// breaks a rule, by its file and then its number: the first rule that this line breaks.

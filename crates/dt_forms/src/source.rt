@@ -19,7 +19,7 @@ pub type ByteList = Items<u8>;
 pub type LineList = Items<Logical>;
 
 /// A file: its bytes, its logical lines, and the number of its last physical line, 0 where there is none.
-#[derive(Debug, Drop)]
+#[derive(Drop)]
 pub struct Source {
     pub bytes: ByteList,
     pub lines: LineList,

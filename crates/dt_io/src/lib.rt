@@ -22,6 +22,3 @@ pub use read::{LoadFault, read_all};
 pub use real_folder::RealFolder;
 pub use real_sink::RealSink;
 pub use sinks::{Failed, Sink, report, write_all};
-
-#[cfg(test)]
-mod tests;

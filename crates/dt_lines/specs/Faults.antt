@@ -6,7 +6,7 @@ use Rattle.std.specs.Option.{option_or}
 use Rattle.dt_values.specs.Names.{is_name_byte}
 use Rattle.dt_values.specs.declared.name.TheConstants.{LONGEST_NAME}
 use Rattle.dt_lines.specs.Lines.{physical_lines, before_comment}
-use Rattle.dt_lines.specs.declared.scan.TheConstants.{MOST_LINES}
+use Rattle.dt_lines.specs.declared.limits.TheConstants.{MOST_LINES}
 use Rattle.dt_lines.specs.declared.fault.LineFault.{LineFault}
 use Rattle.dt_lines.specs.declared.fault.LineFault.TheVariants as faults
 

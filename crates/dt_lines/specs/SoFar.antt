@@ -3,7 +3,7 @@ use Rattle.std.specs.Prelude.{ℕ, ◌≡◌, ◌<◌, ◌≤◌, false, List, l
 use Rattle.std.specs.List.{between}
 use Rattle.dt_lines.specs.Lines.{is_newline}
 use Rattle.dt_lines.specs.Spans.{AreSpans}
-use Rattle.dt_lines.specs.declared.scan.TheConstants.{LARGEST_FILE}
+use Rattle.dt_lines.specs.declared.limits.TheConstants.{LARGEST_FILE}
 use Rattle.dt_lines.specs.declared.line.Span.{Span}
 use Rattle.dt_lines.specs.declared.line.Logical.{Logical}
 

@@ -4,8 +4,8 @@ ghost use Rattle.std.specs.Prelude.{◌≡◌, ◌≤◌, length};
 ghost use Rattle.std.specs.Option.{option_map};
 ghost use Rattle.dt_lines.specs.Faults.{fault_of, has_long_name, has_long_run, line_fault, variant_of};
 
+use crate::limits::{LARGEST_FILE, MOST_LINES};
 use crate::physical::line_end;
-use crate::scan::{LARGEST_FILE, MOST_LINES};
 use crate::token::comment_start;
 use dt_values::name::{LONGEST_NAME, is_name_byte};
 use std::alloc::AllocError;

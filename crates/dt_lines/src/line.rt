@@ -36,7 +36,7 @@ pub struct Position {
 /// A logical line: the place of its file among all files, from 0; the number of its first physical line in the file,
 /// from 1; the column of the first byte there that isn't white space, from 0; its tokens. A comment alone is a line
 /// without tokens.
-#[derive(Debug, Drop)]
+#[derive(Drop)]
 pub struct Logical {
     pub file: u16,
     pub line: u32,

@@ -4,7 +4,7 @@ ghost use Rattle.std.specs.Prelude.{◌≡◌, ◌≤◌, length};
 ghost use Rattle.dt_lines.specs.Lines.{physical_lines};
 ghost use Rattle.dt_lines.specs.SoFar.{IsLineEnd};
 
-use crate::scan::LARGEST_FILE;
+use crate::limits::LARGEST_FILE;
 
 /// How many physical lines a file has. A last one without LF counts where it isn't empty.
 pub fn line_count(bytes: &[u8]) -> u32

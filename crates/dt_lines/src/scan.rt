@@ -9,15 +9,10 @@ ghost use Rattle.dt_lines.specs.Faults.{line_fault, too_many_lines, long_name};
 
 use crate::fault::{LineFault, first_fault};
 use crate::gather::{Gathered, end_line, next_line};
+use crate::limits::LARGEST_FILE;
 use crate::line::{Logical, Position};
 use crate::physical::line_end;
 use std::alloc::{AllocError, Global};
-
-/// The most bytes that a pattern file may have: 4 MiB.
-pub const LARGEST_FILE: usize = 4_194_304;
-
-/// The most physical lines that a pattern file may have.
-pub const MOST_LINES: usize = 65_535;
 
 /// The logical lines of a file, in order. The tokens are the places in `bytes` where they stand. A file with a fault is
 /// refused with the fault of its first line that has one, whether or not there is memory; any other only where memory

@@ -6,8 +6,8 @@ ghost use Rattle.dt_lines.specs.Lines.{indentation, is_comment_mark, is_white, l
 ghost use Rattle.dt_lines.specs.Gathering.{piece_at, piece_between};
 ghost use Rattle.dt_lines.specs.SoFar.{AreSpansTo, IsNext};
 
+use crate::limits::LARGEST_FILE;
 use crate::line::Span;
-use crate::scan::LARGEST_FILE;
 use std::alloc::AllocError;
 
 // Whether the byte is white space.

@@ -10,7 +10,7 @@ use dt_values::Width;
 
 /// What the digits of a line say: how many there are, the value of the bits that they fix, and the masks of the
 /// bits that they fix and ignore. The last digit is the least significant bit.
-#[derive(Clone, Copy, Debug, PartialEq, Eq)]
+#[derive(Clone, Copy, PartialEq, Eq)]
 pub struct Bits {
     pub count: u32,
     pub fixed_bits: u64,

@@ -5,7 +5,7 @@ use dt_values::Items;
 /// A pattern by its number in the list of all patterns, from 0; a group in braces, tried in order; or a group
 /// in brackets, whose entries exclude one another.
 #[cycle(group)]
-#[derive(Debug, Drop)]
+#[derive(Drop)]
 pub enum Entry {
     One(u32),
     Overlap(Group),
@@ -14,7 +14,7 @@ pub enum Entry {
 
 /// A group of entries: the place of its file among all files, from 0, the line where it opens, and its entries.
 #[cycle(group)]
-#[derive(Debug, Drop)]
+#[derive(Drop)]
 pub struct Group {
     pub file: u16,
     pub line: u32,

@@ -5,7 +5,7 @@ use dt_values::{Items, Name};
 
 /// A format: its name; the number of its set, from 0; how many bits it has; what its fixed bits are,
 /// the mask of them and that of its ignored bits; and what its arguments get.
-#[derive(Debug, Drop)]
+#[derive(Drop)]
 pub struct Format {
     pub name: Name,
     pub set: u32,
@@ -19,7 +19,7 @@ pub struct Format {
 /// A pattern: its name; the place of its file among all files, from 0, and its line, from 1; the number
 /// of its format, from 0; how many bits it has; what its fixed bits are, the mask of them and that of its
 /// ignored bits, each with the format's; and what the arguments of its own line get.
-#[derive(Debug, Drop)]
+#[derive(Drop)]
 pub struct Pattern {
     pub name: Name,
     pub file: u16,

@@ -11,7 +11,7 @@ use std::alloc::{AllocError, Global};
 use std::mem::replace;
 
 /// A group that is open: where it opens, and the entries that stand before it in the list that it stands in.
-#[derive(Debug, Drop)]
+#[derive(Drop)]
 pub struct Open {
     pub opening: Opening,
     pub before: Vec<Entry>,
@@ -19,7 +19,7 @@ pub struct Open {
 
 /// The open groups, the innermost last; and the entries of the innermost open group, or the outermost entries where no
 /// group is open.
-#[derive(Debug, Drop)]
+#[derive(Drop)]
 pub struct Groups {
     pub open: Vec<Open>,
     pub entries: Vec<Entry>,

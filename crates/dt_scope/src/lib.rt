@@ -25,6 +25,3 @@ pub use options::Options;
 pub use patterns::Patterns;
 pub use scope::Scope;
 pub use value::{FieldValue, ValueList};
-
-#[cfg(test)]
-mod tests;

@@ -7,7 +7,7 @@ use dt_values::{Name, Width};
 /// The width of a word; whether words have several widths; the decoder's name and what stands before
 /// the translators' names, each with whether it is static. Readers want names of at most 100 bytes
 /// that begin with a letter or an underscore and are no C keyword.
-#[derive(Clone, Copy, Debug, PartialEq, Eq)]
+#[derive(Clone, Copy, PartialEq, Eq)]
 pub struct Options {
     pub width: Width,
     pub variable: bool,

@@ -218,8 +218,7 @@ impl Scope {
             × (parts.2.items ≡ self.patterns)) }
         ensures entries { IfOk result (λ parts. spelled (items_of parts.3.items) ≡ self.marks) }
     {
-        let sets = self.sets.into_items(alloc)?;
-        let formats = self.formats.into_items(alloc)?;
+        let (sets, formats) = definition_lists(alloc, self.sets, self.formats)?;
         Ok((
             sets,
             formats,
@@ -227,4 +226,17 @@ impl Scope {
             self.groups.into_entries(),
         ))
     }
+}
+
+// Sets and formats as lists of their own.
+fn definition_lists(
+    alloc: Global,
+    sets: Sets,
+    formats: Formats,
+) -> Result<(Vec<SetDef>, Vec<Format>), AllocError>
+    ensures { IfOk result (λ lists. (lists.0.items ≡ sets) × (lists.1.items ≡ formats)) }
+{
+    let sets = sets.into_items(alloc)?;
+    let formats = formats.into_items(alloc)?;
+    Ok((sets, formats))
 }

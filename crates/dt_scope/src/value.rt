@@ -4,7 +4,7 @@ use dt_fields::FieldDef;
 use dt_values::{Items, Name};
 
 /// What an argument gets: a field of the word, or a constant.
-#[derive(Debug, Drop)]
+#[derive(Drop)]
 pub enum FieldValue {
     Field(FieldDef),
     Constant(i64),

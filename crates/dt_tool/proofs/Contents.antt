@@ -8,8 +8,8 @@ use Rattle.dt_tool.specs.Inputs.{Input, Unread, too_large, inputs_of, texts_in}
 use Rattle.dt_tool.specs.Messages as said
 use Rattle.dt_tool.specs.Stops.{AnswersTask, AreLoaded, IsTextOf, MakesDue, StopsTask, StopsLoading}
 use Rattle.dt_tool.specs.Tasks.{Task, Due, refused, written, IsDue, IsDueOfInputs, IsDueOfTexts}
-use Rattle.dt_tool.specs.declared.generate.Stop.{Stop}
-use Rattle.dt_tool.specs.declared.generate.Stop.TheVariants as stops
+use Rattle.dt_tool.specs.declared.stop.Stop.{Stop}
+use Rattle.dt_tool.specs.declared.stop.Stop.TheVariants as stops
 use Rattle.dt_tool.proofs.Loading.{ReadOfSome, loaded_of_some, large_of_some}
 
 module _ (task : Task) where

@@ -16,8 +16,8 @@ use Rattle.dt_tool.specs.Evaluations.{Evaluation, due_of_program, first_undeclar
 use Rattle.dt_tool.specs.Refusals.{SaysUnreadText}
 use Rattle.dt_tool.specs.Stops.{MakesDue}
 use Rattle.dt_tool.specs.Tasks.{Due}
-use Rattle.dt_tool.specs.declared.generate.Stop.{Stop}
-use Rattle.dt_tool.specs.declared.generate.Stop.TheVariants as stops
+use Rattle.dt_tool.specs.declared.stop.Stop.{Stop}
+use Rattle.dt_tool.specs.declared.stop.Stop.TheVariants as stops
 
 -- what is made due by one rule is made due by another that follows from it
 pub made_by : {A : Type 0} (P Q : Due → Type 0) (result : Result (Vec ℕ A) Stop) → ((what : Due) → P what → Q what)

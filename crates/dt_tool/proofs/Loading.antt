@@ -15,8 +15,8 @@ use Rattle.dt_tool.specs.Inputs.{Input, Unread, missing, too_large, text_unless,
 use Rattle.dt_tool.specs.Inputs.{inputs_of, AreSomeInputs}
 use Rattle.dt_tool.specs.Stops.{AreLoaded, StopsLoad, StopsLoading}
 use Rattle.dt_tool.specs.View.{contents}
-use Rattle.dt_tool.specs.declared.generate.Stop.{Stop}
-use Rattle.dt_tool.specs.declared.generate.Stop.TheVariants as stops
+use Rattle.dt_tool.specs.declared.stop.Stop.{Stop}
+use Rattle.dt_tool.specs.declared.stop.Stop.TheVariants as stops
 
 abbrev Read : Type 0
 Read = Result (List (List ℕ)) Unread

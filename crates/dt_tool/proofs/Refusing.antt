@@ -29,8 +29,8 @@ use Rattle.dt_tool.specs.Messages as said
 use Rattle.dt_tool.specs.Refusals.{IsFaultWithin, NamesEmpty, NamesKnot, RefusesEntries, RefusesFault, SaysFault}
 use Rattle.dt_tool.specs.Refusals.{SaysThis}
 use Rattle.dt_tool.specs.Stops.{Refuses}
-use Rattle.dt_tool.specs.declared.generate.Stop.{Stop}
-use Rattle.dt_tool.specs.declared.generate.Stop.TheVariants as stops
+use Rattle.dt_tool.specs.declared.stop.Stop.{Stop}
+use Rattle.dt_tool.specs.declared.stop.Stop.TheVariants as stops
 
 -- what is said names a fault that there is
 names_fault : (width : Width) (names : List (List ℕ)) (expected : Option Fault) (fault : Fault) (stop : Stop)

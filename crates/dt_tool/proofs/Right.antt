@@ -16,8 +16,8 @@ use Rattle.dt_tool.specs.Outcomes.{Says, Stands, StandsPart, WritingFailed}
 use Rattle.dt_tool.specs.Stops.{IsMade, IsTextOf, StopsTask}
 use Rattle.dt_tool.specs.Tasks.{Task, Due, missing, refused, written, IsDue, IsDueOfTexts}
 use Rattle.dt_tool.specs.View.{message_of, outcome_of}
-use Rattle.dt_tool.specs.declared.generate.Stop.{Stop}
-use Rattle.dt_tool.specs.declared.generate.Stop.TheVariants as stops
+use Rattle.dt_tool.specs.declared.stop.Stop.{Stop}
+use Rattle.dt_tool.specs.declared.stop.Stop.TheVariants as stops
 use Rattle.dt_tool.specs.declared.status.Outcome.{Outcome}
 use Rattle.dt_tool.specs.declared.status.Outcome.TheVariants as outcomes
 use Rattle.dt_tool.proofs.OneDue.{IsOnce, one_due}

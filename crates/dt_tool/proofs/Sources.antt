@@ -7,7 +7,7 @@ use Rattle.std.proofs.lemmas.List.{get_or_append_left, length-append, map-append
 use Rattle.std.proofs.lemmas.List.Elements.{All-tail}
 use Rattle.std.specs.Prelude.{All, Vec}
 use Rattle.std.specs.Option.{option_or}
-use Rattle.dt_lines.specs.declared.scan.TheConstants.{LARGEST_FILE}
+use Rattle.dt_lines.specs.declared.limits.TheConstants.{LARGEST_FILE}
 use Rattle.dt_forms.specs.FileFaults.{fault_of_files, file_fault}
 use Rattle.dt_forms.specs.Sources.{AreSources, IsSourceAt}
 use Rattle.dt_forms.specs.View.{texts_of}

@@ -19,8 +19,8 @@ use Rattle.c_subset.specs.declared.fault.CFault.TheVariants as cfaults
 use Rattle.dt_tool.specs.Tasks.{refused}
 use Rattle.dt_tool.specs.Messages as said
 use Rattle.dt_tool.specs.Stops.{Refuses}
-use Rattle.dt_tool.specs.declared.generate.Stop.{Stop}
-use Rattle.dt_tool.specs.declared.generate.Stop.TheVariants as stops
+use Rattle.dt_tool.specs.declared.stop.Stop.{Stop}
+use Rattle.dt_tool.specs.declared.stop.Stop.TheVariants as stops
 
 -- the token of a fault's detail lies in its file
 abbrev pub IsFaultWithin : List Source → ModelFault → Type 0

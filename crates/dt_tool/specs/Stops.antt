@@ -6,8 +6,8 @@ use Rattle.dt_io.specs.Folders.{FolderSeen, Missed, ReadFailed}
 use Rattle.dt_tool.specs.Inputs.{Input, missing, too_large, inputs_of, texts_in, AreSomeInputs}
 use Rattle.dt_tool.specs.Messages as said
 use Rattle.dt_tool.specs.Tasks.{Due, refused, written, Task, IsDue, IsDueOfInputs}
-use Rattle.dt_tool.specs.declared.generate.Stop.{Stop}
-use Rattle.dt_tool.specs.declared.generate.Stop.TheVariants as stops
+use Rattle.dt_tool.specs.declared.stop.Stop.{Stop}
+use Rattle.dt_tool.specs.declared.stop.Stop.TheVariants as stops
 
 -- a text is what a written one is besides, for what is read of these inputs
 pub record IsBesides (task : Task) (inputs : List Input) (text : List ℕ) : Type 0 where

@@ -6,10 +6,10 @@ use Rattle.dt_match.specs.declared.script.Call.{Call}
 use Rattle.dt_tool.specs.Due.{Asked}
 use Rattle.dt_tool.specs.Evaluations.{Evaluation}
 use Rattle.dt_tool.specs.Messages as said
-use Rattle.dt_tool.specs.declared.evaluate.Evaluation.{Evaluation as MadeEvaluation}
-use Rattle.dt_tool.specs.declared.generate.Request.{Request}
-use Rattle.dt_tool.specs.declared.generate.Stop.{Stop}
-use Rattle.dt_tool.specs.declared.generate.Stop.TheVariants as stops
+use Rattle.dt_tool.specs.declared.request.Evaluation.{Evaluation as MadeEvaluation}
+use Rattle.dt_tool.specs.declared.request.Request.{Request}
+use Rattle.dt_tool.specs.declared.stop.Stop.{Stop}
+use Rattle.dt_tool.specs.declared.stop.Stop.TheVariants as stops
 use Rattle.dt_tool.specs.declared.status.Outcome.{Outcome}
 use Rattle.dt_tool.specs.declared.status.Outcome.TheVariants as outcomes
 

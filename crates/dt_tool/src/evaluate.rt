@@ -14,32 +14,20 @@ ghost use Rattle.dt_tool.specs.Refusals.{SaysUnreadText};
 ghost use Rattle.dt_tool.specs.Stops.{AnswersTask, MakesDue};
 ghost use Rattle.dt_tool.specs.View.{evaluation_seen};
 
-use crate::generate::{Stop, refusal};
 use crate::inputs::load;
 use crate::messages;
+use crate::request::Evaluation;
 use crate::run_text::run_text;
+use crate::stop::{Stop, refusal};
 use c_subset::{CFault, Program, read_c};
 use dt_fields::SetDef;
 use dt_io::Folder;
-use dt_match::Answer;
 use dt_values::{Name, Width};
-use dt_words::Text;
 use std::alloc::{AllocError, Global};
 use std::collections::HashSet;
 
 /// The most bytes of a C text.
 pub const LARGEST_C_TEXT: usize = 16_777_216;
-
-/// What `eval` is asked for: the run of the text in a file at a word, as it was given, with a script.
-#[derive(Clone, Copy)]
-pub struct Evaluation<'a> {
-    /// The name of the file that holds the text.
-    pub text: &'a Text,
-    pub word: u64,
-    pub given: &'a str,
-    pub outcomes: &'a [bool],
-    pub answers: &'a [Answer],
-}
 
 /// What is written of the run of the text.
 pub fn evaluate<D: Folder>(

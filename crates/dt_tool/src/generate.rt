@@ -1,7 +1,7 @@
 //! From the files that the words name to the C text, with all that stops it on the way.
 
 ghost use Rattle.std.specs.Prelude.{◌≡◌, ◌≤◌, List, All, None, length};
-ghost use Rattle.std.specs.Prelude.{IfErr, IfOk, MatchResult, OnOk};
+ghost use Rattle.std.specs.Prelude.{IfErr, IfOk, OnOk};
 ghost use Rattle.dt_io.specs.Folders.{IsOnlyRead};
 ghost use Rattle.dt_forms.specs.Models.{IsModelOf};
 ghost use Rattle.dt_scope.specs.Options.{IsOptions};
@@ -16,44 +16,23 @@ ghost use Rattle.dt_tree.specs.Refusals.{KeepGroupRules, IsRefused};
 ghost use Rattle.dt_tool.specs.Decoders.{IsDecoderOf};
 ghost use Rattle.dt_tool.specs.Due.{IsDueOfFiles, gen_task};
 ghost use Rattle.dt_tool.specs.Messages as said;
-ghost use Rattle.dt_tool.specs.Refusals.{IsFaultWithin, RefusesEntries, RefusesFault, SaysFault, SaysThis};
+ghost use Rattle.dt_tool.specs.Refusals.{RefusesEntries, RefusesFault, SaysThis};
 ghost use Rattle.dt_tool.specs.Stops.{AnswersTask, MakesDue};
 ghost use Rattle.dt_tool.specs.View.{asked_seen, contents};
 
 use crate::inputs::{load_all, sources_of};
 use crate::messages;
 use crate::messages::Inputs;
+use crate::request::Request;
+use crate::stop::{Stop, refusal, stop_of};
 use c_writer::text::text;
 use dt_fields::Rule;
-use dt_forms::{MOST_FILES, Model, ModelFault, Options, read_model};
+use dt_forms::{MOST_FILES, Model, Options, read_model};
 use dt_io::Folder;
 use dt_lines::{LARGEST_FILE, Position};
 use dt_tree::{Tree, TreeFault};
 use dt_words::Text;
-use std::alloc::{AllocError, Global};
-use thiserror::Error;
-
-/// What `gen` is asked for: with these options, of these pattern files, for standard output or the file of this name.
-#[derive(Clone, Copy)]
-pub struct Request<'a> {
-    pub options: &'a Options,
-    pub output: &'a Option<Text>,
-    pub files: &'a [Text],
-}
-
-/// Why no text is written, with what is said of it.
-#[derive(Debug, Drop, Error)]
-pub enum Stop {
-    /// A file isn't there, or a read of it failed.
-    #[error("an input cannot be read")]
-    ReadFault(Vec<u8>),
-    /// The files break a rule.
-    #[error("an input breaks a rule")]
-    Refused(Vec<u8>),
-    /// Memory ran out.
-    #[error("out of memory")]
-    NoMemory,
-}
+use std::alloc::Global;
 
 /// The C text of the files.
 pub fn generate<D: Folder>(alloc: Global, request: Request, folder: &mut D) -> Result<Vec<u8>, Stop>
@@ -90,17 +69,6 @@ fn text_of_files(
     match text(alloc, &model, options) {
         Ok(text) => Ok(text),
         Err(_) => Err(Stop::NoMemory),
-    }
-}
-
-/// What a fault of the inputs says.
-pub fn stop_of(alloc: Global, inputs: Inputs, fault: ModelFault) -> Stop
-    requires { IsFaultWithin inputs.sources.now fault }
-    ensures { SaysFault inputs.entry.width inputs.entry.names.now inputs.entry.sources.now fault result }
-{
-    match fault {
-        ModelFault::Broken(fault) => refusal(messages::fault_message(alloc, inputs, &fault)),
-        ModelFault::NoMemory => Stop::NoMemory,
     }
 }
 
@@ -158,24 +126,4 @@ fn refuse_entry(alloc: Global, inputs: Inputs, position: Position, rule: Rule) -
         (texts_of inputs.entry.sources.now) position) }
 {
     refusal(messages::entry_message(alloc, inputs, position, rule))
-}
-
-/// A refusal, if there is memory for its message.
-pub fn refusal(message: Result<Vec<u8>, AllocError>) -> Stop
-    ensures { MatchResult message (λ text. result ≡ Stop.Refused text) (λ _. result ≡ Stop.NoMemory) }
-{
-    match message {
-        Ok(message) => Stop::Refused(message),
-        Err(_) => Stop::NoMemory,
-    }
-}
-
-/// A file that isn't read, if there is memory for its message.
-pub fn read_fault(message: Result<Vec<u8>, AllocError>) -> Stop
-    ensures { MatchResult message (λ text. result ≡ Stop.ReadFault text) (λ _. result ≡ Stop.NoMemory) }
-{
-    match message {
-        Ok(message) => Stop::ReadFault(message),
-        Err(_) => Stop::NoMemory,
-    }
 }

@@ -10,9 +10,9 @@ ghost use Rattle.dt_tool.specs.Refusals.{RefusesFault};
 ghost use Rattle.dt_tool.specs.Stops.{AreLoaded, StopsLoad, StopsLoading};
 ghost use Rattle.dt_tool.specs.View.{contents};
 
-use crate::generate::{Stop, read_fault, refusal, stop_of};
 use crate::messages;
 use crate::messages::Inputs;
+use crate::stop::{Stop, read_fault, refusal, stop_of};
 use dt_forms::{MOST_FILES, Source};
 use dt_io::{Folder, LoadFault, read_all};
 use dt_lines::LARGEST_FILE;

@@ -11,10 +11,12 @@ ghost use Rattle.dt_tool.specs.Messages as said;
 ghost use Rattle.dt_tool.specs.Outcomes.{IsRightTask, run_seen};
 ghost use Rattle.dt_tool.specs.View.{asked_seen, evaluation_seen, message_of, outcome_of};
 
-use crate::evaluate::{Evaluation, evaluate};
-use crate::generate::{Request, Stop, generate};
+use crate::evaluate::evaluate;
+use crate::generate::generate;
 use crate::messages;
+use crate::request::{Evaluation, Request};
 use crate::status::Outcome;
+use crate::stop::Stop;
 use dt_io::{Failed, Folder, Sink, report, write_all, write_output};
 use dt_words::Text;
 use std::alloc::Global;

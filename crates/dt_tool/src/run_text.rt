@@ -13,7 +13,7 @@ ghost use Rattle.c_subset.specs.View.{pattern_of, program_of};
 ghost use Rattle.dt_tool.specs.RunTexts as said;
 ghost use Rattle.dt_tool.specs.View.{call_seen};
 
-use crate::evaluate::Evaluation;
+use crate::request::Evaluation;
 use c_eval::run_laws::law_script_run;
 use c_eval::{Bytes, Ended, run_decode, run_load};
 use c_subset::{Program, call_sites};

@@ -9,9 +9,8 @@ ghost use Rattle.dt_tool.specs.Messages as said;
 ghost use Rattle.dt_tool.specs.Outcomes.{IsRight, output_named, run_seen};
 ghost use Rattle.dt_tool.specs.Statuses.{exit_status, tests_errors};
 
-use crate::evaluate::Evaluation;
-use crate::generate::Request;
 use crate::messages;
+use crate::request::{Evaluation, Request};
 use crate::run::{run_eval, run_gen};
 use crate::status::{Outcome, Status};
 use dt_io::{Folder, Sink, report};

@@ -4,7 +4,7 @@ ghost use Rattle.dt_tree.specs.Commons.{IsJoin};
 ghost use Rattle.dt_tree.specs.Splits.{fixed_seen};
 
 /// The bits that patterns fix, and their values.
-#[derive(Clone, Copy, Debug)]
+#[derive(Clone, Copy)]
 pub struct FixedBits {
     pub mask: u64,
     pub bits: u64,

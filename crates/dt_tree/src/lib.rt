@@ -13,6 +13,3 @@ pub mod tree;
 
 pub use fault::{PositionList, TreeFault};
 pub use tree::Tree;
-
-#[cfg(test)]
-mod tests;

@@ -14,7 +14,7 @@ use dt_forms::{Entry, Model, Pattern};
 use std::alloc::Global;
 
 /// The tree of a model. It keeps nothing yet: that there is one says that its entries are told apart.
-#[derive(Debug, Drop)]
+#[derive(Drop)]
 pub struct Tree {
     nodes: (),
 }

@@ -38,7 +38,7 @@ pub fn deposit(n: u32, v: u64, start: u32, length: u32, f: u64) -> u64
 
 /// The number modulo 2 to the number of bits.
 #[tactic(auto, using(crate::proofs::Parts::residue_below))]
-pub(crate) fn residue(bits: u32, v: i128) -> u64
+pub fn residue(bits: u32, v: i128) -> u64
     requires { bits ≤ 64 }
     ensures value { result ≡ residue bits v }
     ensures below { result < 2 ^ bits }
@@ -47,7 +47,7 @@ pub(crate) fn residue(bits: u32, v: i128) -> u64
 }
 
 /// The signed number that these `length` bits are: the highest of them is its sign.
-pub(crate) fn read_signed(bits: u64, length: u32) -> i128
+pub fn read_signed(bits: u64, length: u32) -> i128
     requires some { 1 ≤ length }
     requires inside { length ≤ 64 }
     requires below { bits < 2 ^ length }

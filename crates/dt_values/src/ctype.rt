@@ -6,7 +6,7 @@ ghost use Rattle.dt_values.specs.Types.{type_of, type_name};
 use crate::name::Name;
 
 /// The type of an argument: `int`, one of the eight types of fixed size of `stdint.h`, or another name.
-#[derive(Clone, Copy, Debug, PartialEq, Eq, Hash)]
+#[derive(Clone, Copy, PartialEq, Eq)]
 pub enum CType {
     Int,
     I8,
@@ -76,7 +76,7 @@ impl CType {
 }
 
 /// An argument of a set.
-#[derive(Clone, Copy, Debug, PartialEq, Eq, Hash)]
+#[derive(Clone, Copy, PartialEq, Eq)]
 pub struct Member {
     pub ctype: CType,
     pub name: Name,

@@ -16,6 +16,3 @@ pub use name::Name;
 pub use stored::store;
 pub use values::Values;
 pub use width::Width;
-
-#[cfg(test)]
-mod tests;

@@ -12,7 +12,7 @@ use crate::stored::store;
 
 /// The values of a set's arguments, in the set's order. The set has at most 32 arguments. Each value lies in the range
 /// of its type, and an argument of another type has any value. The items past the arguments are 0.
-#[derive(Clone, Copy, Debug)]
+#[derive(Clone, Copy)]
 pub struct Values<'a> {
     pub members: &'a [Member],
     pub items: [i128; 32],

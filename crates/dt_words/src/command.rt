@@ -6,7 +6,7 @@ use dt_values::Items;
 use std::marker::Model;
 
 /// A text. Contracts see the list of its bytes.
-#[derive(Debug, Drop)]
+#[derive(Drop)]
 pub struct Text {
     text: String,
 }
@@ -56,7 +56,7 @@ pub type OutcomeList = Items<bool>;
 pub type AnswerList = Items<Answer>;
 
 /// What the words ask for.
-#[derive(Debug, Drop)]
+#[derive(Drop)]
 pub enum Command {
     /// The C text of 1 to `MOST_FILES` pattern files, for the standard output or a file of the name `output`. Under
     /// `test` the statuses of success and of a refusal change places.

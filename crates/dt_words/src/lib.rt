@@ -21,6 +21,3 @@ pub use print::printed_word;
 pub use read::{WordFault, read_words};
 pub use rows::MOST_FILES;
 pub use usage::Usage;
-
-#[cfg(test)]
-mod tests;

@@ -27,7 +27,7 @@ use dt_values::{Name, Width};
 use std::alloc::{AllocError, Global};
 
 /// Why the words are no command.
-#[derive(Clone, Copy, Debug, PartialEq, Eq)]
+#[derive(Clone, Copy, PartialEq, Eq)]
 pub enum WordFault {
     /// What is wrong, and the place of the faulty word among all words, from 0. There is none where a word is missing.
     Bad(Usage, Option<usize>),

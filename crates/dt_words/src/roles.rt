@@ -9,7 +9,7 @@ use crate::rows::{Row, ValueKind};
 use std::alloc::{AllocError, Global};
 
 /// What a word is.
-#[derive(Clone, Copy, Debug)]
+#[derive(Clone, Copy)]
 pub enum Role<'a> {
     /// The `--` behind which all words are operands.
     Ends,
@@ -23,7 +23,7 @@ pub enum Role<'a> {
 }
 
 /// What the words so far say of the next one.
-#[derive(Clone, Copy, Debug)]
+#[derive(Clone, Copy)]
 pub enum Next {
     Anything,
     ValueOf(Row),

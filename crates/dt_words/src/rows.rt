@@ -8,14 +8,14 @@ ghost use Rattle.dt_words.specs.View.{row_seen};
 pub const MOST_FILES: usize = 16;
 
 /// A command by its name.
-#[derive(Clone, Copy, Debug)]
+#[derive(Clone, Copy)]
 pub enum Verb {
     Gen,
     Eval,
 }
 
 /// What a word must be that is an operand or an option's value.
-#[derive(Clone, Copy, Debug)]
+#[derive(Clone, Copy)]
 pub enum ValueKind {
     /// There is no value: the option stands for itself.
     Flag,
@@ -32,7 +32,7 @@ pub enum ValueKind {
 }
 
 /// An option of a command: its long name, its short one (empty where it has none), and what its value must be.
-#[derive(Clone, Copy, Debug)]
+#[derive(Clone, Copy)]
 pub struct Row {
     pub name: &'static str,
     pub short: &'static str,

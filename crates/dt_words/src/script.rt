@@ -11,7 +11,7 @@ use dt_values::Name;
 use std::alloc::{AllocError, Global};
 
 /// An item of a script.
-#[derive(Clone, Copy, Debug)]
+#[derive(Clone, Copy)]
 pub enum Item {
     /// The outcome of a call.
     Outcome(bool),

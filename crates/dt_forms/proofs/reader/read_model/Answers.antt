@@ -5,7 +5,7 @@ use Rattle.dt_forms.specs.View.{texts_of}
 use Rattle.dt_forms.proofs.ModelParts.{model_of_files}
 use Rattle.dt_forms.proofs.ReadSources.{sources_short}
 use Rattle.dt_forms.proofs.Soundness.{sound_model}
-use Rattle.dt_forms.specs.declared.reader.TheConstants.{MOST_FILES}
+use Rattle.dt_forms.specs.declared.limits.TheConstants.{MOST_FILES}
 use Rattle.dt_forms.specs.declared.source.Source.{Source}
 use Rattle.dt_forms.proofs.reader.read_model.Goals as goal
 

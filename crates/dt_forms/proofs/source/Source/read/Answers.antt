@@ -1,5 +1,5 @@
 use Rattle.std.proofs.Common.{◌≤◌, length, rules}
-use Rattle.dt_lines.specs.declared.scan.TheConstants.{LARGEST_FILE}
+use Rattle.dt_lines.specs.declared.limits.TheConstants.{LARGEST_FILE}
 use Rattle.dt_lines.specs.Faults.{line_fault}
 use Rattle.dt_forms.proofs.BrokenFiles.{broken_file, whole_without_memory}
 use Rattle.dt_forms.proofs.ReadSources.{is_source}

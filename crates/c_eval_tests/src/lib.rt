@@ -1,0 +1,5 @@
+//! Tests of c_eval.
+#![tactic(auto)]
+
+#[cfg(test)]
+mod tests;

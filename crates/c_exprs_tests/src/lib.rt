@@ -1,0 +1,5 @@
+//! Tests of c_exprs.
+#![tactic(auto)]
+
+#[cfg(test)]
+mod tests;

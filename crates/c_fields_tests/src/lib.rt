@@ -1,0 +1,5 @@
+//! Tests of c_fields.
+#![tactic(auto)]
+
+#[cfg(test)]
+mod tests;

@@ -1,0 +1,5 @@
+//! Tests of c_tokens.
+#![tactic(auto)]
+
+#[cfg(test)]
+mod tests;

@@ -1,0 +1,5 @@
+//! Tests of c_writer.
+#![tactic(auto)]
+
+#[cfg(test)]
+mod tests;

@@ -1,0 +1,5 @@
+//! Tests of dt_fields.
+#![tactic(auto)]
+
+#[cfg(test)]
+mod tests;

@@ -1,0 +1,5 @@
+//! Tests of dt_io.
+#![tactic(auto)]
+
+#[cfg(test)]
+mod tests;

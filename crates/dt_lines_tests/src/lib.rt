@@ -1,0 +1,5 @@
+//! Tests of dt_lines.
+#![tactic(auto)]
+
+#[cfg(test)]
+mod tests;

@@ -1,0 +1,5 @@
+//! Tests of dt_scope.
+#![tactic(auto)]
+
+#[cfg(test)]
+mod tests;

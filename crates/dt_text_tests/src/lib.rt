@@ -1,0 +1,5 @@
+//! Tests of dt_text.
+#![tactic(auto)]
+
+#[cfg(test)]
+mod tests;

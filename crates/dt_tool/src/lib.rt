@@ -1,0 +1,16 @@
+//! What decodetree does with its words: what is read, what is written, and what is said of a run.
+#![tactic(auto)]
+
+pub mod evaluate;
+pub mod generate;
+pub mod inputs;
+pub mod laws;
+pub mod messages;
+pub mod request;
+pub mod run;
+pub mod run_text;
+pub mod status;
+pub mod stop;
+pub mod tool;
+
+pub use status::{Outcome, Status};

@@ -1,0 +1,5 @@
+//! Tests of dt_tree.
+#![tactic(auto)]
+
+#[cfg(test)]
+mod tests;

@@ -1,0 +1,5 @@
+//! Tests of dt_values.
+#![tactic(auto)]
+
+#[cfg(test)]
+mod tests;
