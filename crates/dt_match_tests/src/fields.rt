@@ -42,7 +42,7 @@ fn segment_of(part: Part, imm: Name) -> Segment {
 }
 
 // A field of two segments.
-#[tactic(auto, using(crate::proofs::Readable::readable_two))]
+#[tactic(auto, using(dt_match::proofs::Readable::readable_two))]
 fn field(alloc: Global, first: Segment, second: Segment) -> Result<FieldDef, Fail>
     requires first { segment_end first ≤ 64 }
     requires second { segment_end second ≤ 64 }

@@ -3,84 +3,78 @@
 use crate::words::words_of;
 use dt_match::Answer;
 use dt_words::{Command, Usage, WordFault, read_words};
-use std::alloc::Global;
+use std::alloc::{AllocError, Global};
 use std::process::Abort;
 use std::test::Fail;
 
-// What an `eval` with this script holds, as `f t 0 ex - 5`: the outcomes, and then the answers.
-fn summary_of(alloc: Global, script: &str) -> Result<String, Fail> {
-    let line = format!(in alloc; "eval c 0 {script}")?;
-    let words = words_of(alloc, line.as_str())?;
-    match read_words(alloc, words.as_slice()) {
-        Ok(command) => summary(alloc, &command),
-        Err(_) => Err(Fail::from("no command")),
+// An answer of a script: after how many calls, of which function, on which argument, and the answer.
+type Wanted<'a> = (u64, &'a str, Option<i32>, i32);
+
+// A script with its outcomes and its answers.
+type Row<'a> = (&'a str, &'a [bool], &'a [Wanted<'a>]);
+
+// The words of an `eval` of this script.
+fn words_with(alloc: Global, script: &str) -> Result<Vec<String>, AllocError> {
+    let mut words = words_of(alloc, "eval c 0")?;
+    words.push(String::from_str(alloc, script)?)?;
+    Ok(words)
+}
+
+fn is_answer(answer: &Answer, wanted: &Wanted) -> bool {
+    let (calls, function, arg, number) = wanted;
+    answer.calls == *calls
+        && answer.function.as_str() == *function
+        && answer.arg == *arg
+        && answer.answer == *number
+}
+
+fn are_answers(answers: &[Answer], wanted: &[Wanted]) -> bool {
+    answers.len() == wanted.len()
+        && answers
+            .iter()
+            .zip(wanted.iter())
+            .all(|(answer, wanted)| is_answer(answer, wanted))
+}
+
+// Whether a command is an `eval` with these outcomes and answers.
+fn holds(command: &Command, outcomes: &[bool], answers: &[Wanted]) -> bool {
+    match command {
+        Command::Eval {
+            outcomes: found,
+            answers: given,
+            ..
+        } => found.items() == outcomes && are_answers(given.items(), answers),
+        _ => false,
     }
 }
 
-fn summary(alloc: Global, command: &Command) -> Result<String, Fail> {
-    let Command::Eval {
-        outcomes,
-        answers,
-        ..
-    } = command
-    else {
-        return Err(Fail::from("another command"));
-    };
-    let mut text = String::new(alloc);
-    for outcome in outcomes.items() {
-        text.push_str(if *outcome { "t " } else { "f " })?;
-    }
-    for answer in answers.items() {
-        push_answer(alloc, &mut text, answer)?;
-    }
-    Ok(text)
-}
-
-fn push_answer(alloc: Global, text: &mut String, answer: &Answer) -> Result<(), Fail> {
-    let Answer {
-        calls,
-        function,
-        arg,
-        answer,
-    } = answer;
-    let name = function.as_str();
-    let arg = match arg {
-        Some(arg) => format!(in alloc; "{arg}")?,
-        None => String::from_str(alloc, "-")?,
-    };
-    let line = format!(in alloc; "{calls} {name} {arg} {answer} ")?;
-    text.push_str(line.as_str())?;
-    Ok(())
-}
-
-// What is wrong with an `eval` of this script.
-fn fault_of(alloc: Global, script: &str) -> Result<WordFault, Fail> {
-    let line = format!(in alloc; "eval c 0 {script}")?;
-    fault_in(alloc, line.as_str())
-}
-
-fn fault_in(alloc: Global, line: &str) -> Result<WordFault, Fail> {
-    let words = words_of(alloc, line)?;
-    match read_words(alloc, words.as_slice()) {
-        Ok(_) => Err(Fail::from("a command")),
-        Err(fault) => Ok(fault),
+// Whether words are a command with these outcomes and answers.
+fn read_holds(alloc: Global, words: &[String], outcomes: &[bool], answers: &[Wanted]) -> bool {
+    match read_words(alloc, words) {
+        Ok(command) => holds(&command, outcomes, answers),
+        Err(_) => false,
     }
 }
 
 // Scripts with what they hold.
-fn check_scripts(rt: &(impl Abort + AllocGlobal), table: &[(&str, &str)]) -> Result<(), Fail> {
-    for &(script, wanted) in table {
-        let summary = summary_of(rt.alloc(), script)?;
-        assert!(rt; summary.as_str() == wanted, "at {script}");
+fn check_scripts(rt: &(impl Abort + AllocGlobal), table: &[Row]) -> Result<(), Fail> {
+    for &(script, outcomes, answers) in table {
+        let words = words_with(rt.alloc(), script)?;
+        assert!(rt; read_holds(rt.alloc(), words.as_slice(), outcomes, answers), "at {script}");
     }
     Ok(())
+}
+
+fn fault_of(alloc: Global, words: &[String]) -> Option<WordFault> {
+    read_words(alloc, words).err()
 }
 
 // Scripts that are none.
 fn check_unread(rt: &(impl Abort + AllocGlobal), table: &[&str]) -> Result<(), Fail> {
     for &script in table {
-        let fault = fault_of(rt.alloc(), script)?;
-        assert!(rt; fault == WordFault::Bad(Usage::U4, Some(3)), "at {script}");
+        let words = words_with(rt.alloc(), script)?;
+        let fault = fault_of(rt.alloc(), words.as_slice());
+        assert!(rt; fault == Some(WordFault::Bad(Usage::U4, Some(3))), "at {script}");
     }
     Ok(())
 }
@@ -88,30 +82,38 @@ fn check_unread(rt: &(impl Abort + AllocGlobal), table: &[&str]) -> Result<(), F
 // Lines of words with what is wrong with them.
 fn check_faults(rt: &(impl Abort + AllocGlobal), table: &[(&str, WordFault)]) -> Result<(), Fail> {
     for &(line, wanted) in table {
-        let fault = fault_in(rt.alloc(), line)?;
-        assert!(rt; fault == wanted, "at {line}");
+        let words = words_of(rt.alloc(), line)?;
+        let fault = fault_of(rt.alloc(), words.as_slice());
+        assert!(rt; fault == Some(wanted), "at {line}");
     }
     Ok(())
 }
 
 #[test]
 fn outcomes_are_in_order(rt: HostRuntime) -> Result<(), Fail> {
-    let table: &[(&str, &str)] = &[("-", ""), ("t", "t "), ("f,t", "f t "), ("t,t,f", "t t f ")];
+    let table: &[Row] = &[
+        ("-", &[], &[]),
+        ("t", &[true], &[]),
+        ("f,t", &[false, true], &[]),
+        ("t,t,f", &[true, true, false], &[]),
+    ];
     check_scripts(&rt, table)
 }
 
 #[test]
 fn answers_have_four_parts(rt: HostRuntime) -> Result<(), Fail> {
-    let table: &[(&str, &str)] = &[
-        ("0:ex:-:5", "0 ex - 5 "),
+    let table: &[Row] = &[
+        ("0:ex:-:5", &[], &[(0, "ex", None, 5)]),
         (
             "0x10:f_1:-2147483648:2147483647",
-            "16 f_1 -2147483648 2147483647 ",
+            &[],
+            &[(16, "f_1", Some(-2_147_483_648), 2_147_483_647)],
         ),
-        ("007:9:-0:-007", "7 9 0 -7 "),
+        ("007:9:-0:-007", &[], &[(7, "9", Some(0), -7)]),
         (
             "18446744073709551615:_:00000000000000000000001:0",
-            "18446744073709551615 _ 1 0 ",
+            &[],
+            &[(18_446_744_073_709_551_615, "_", Some(1), 0)],
         ),
     ];
     check_scripts(&rt, table)
@@ -119,10 +121,18 @@ fn answers_have_four_parts(rt: HostRuntime) -> Result<(), Fail> {
 
 #[test]
 fn outcomes_and_answers_mix(rt: HostRuntime) -> Result<(), Fail> {
-    let table: &[(&str, &str)] = &[
-        ("t,0:a:1:2,f,1:b:-:3", "t f 0 a 1 2 1 b - 3 "),
-        ("0xA:t:0:-1,t", "t 10 t 0 -1 "),
-        ("0:a:1:2,0:a:1:3", "0 a 1 2 0 a 1 3 "),
+    let table: &[Row] = &[
+        (
+            "t,0:a:1:2,f,1:b:-:3",
+            &[true, false],
+            &[(0, "a", Some(1), 2), (1, "b", None, 3)],
+        ),
+        ("0xA:t:0:-1,t", &[true], &[(10, "t", Some(0), -1)]),
+        (
+            "0:a:1:2,0:a:1:3",
+            &[],
+            &[(0, "a", Some(1), 2), (0, "a", Some(1), 3)],
+        ),
     ];
     check_scripts(&rt, table)
 }
@@ -168,10 +178,7 @@ fn arguments_and_answers_are_integers(rt: HostRuntime) -> Result<(), Fail> {
 
 #[test]
 fn names_have_at_most_128_bytes(rt: HostRuntime) -> Result<(), Fail> {
-    let read: &[(&str, &str)] = &[(
-        "0:aaaaaaaaaaaaaaaaaaaaaaaaaaaaaaaaaaaaaaaaaaaaaaaaaaaaaaaaaaaaaaaaaaaaaaaaaaaaaaaaaaaaaaaaaaaaaaaaaaaaaaaaaaaaaaaaaaaaaaaaaaaaaaaa:-:0",
-        "0 aaaaaaaaaaaaaaaaaaaaaaaaaaaaaaaaaaaaaaaaaaaaaaaaaaaaaaaaaaaaaaaaaaaaaaaaaaaaaaaaaaaaaaaaaaaaaaaaaaaaaaaaaaaaaaaaaaaaaaaaaaaaaaaa - 0 ",
-    )];
+    let read: &[Row] = &[("0:aaaaaaaaaaaaaaaaaaaaaaaaaaaaaaaaaaaaaaaaaaaaaaaaaaaaaaaaaaaaaaaaaaaaaaaaaaaaaaaaaaaaaaaaaaaaaaaaaaaaaaaaaaaaaaaaaaaaaaaaaaaaaaaa:-:0", &[], &[(0, "aaaaaaaaaaaaaaaaaaaaaaaaaaaaaaaaaaaaaaaaaaaaaaaaaaaaaaaaaaaaaaaaaaaaaaaaaaaaaaaaaaaaaaaaaaaaaaaaaaaaaaaaaaaaaaaaaaaaaaaaaaaaaaaa", None, 0)])];
     check_scripts(&rt, read)?;
     let unread: &[&str] = &[
         "0:aaaaaaaaaaaaaaaaaaaaaaaaaaaaaaaaaaaaaaaaaaaaaaaaaaaaaaaaaaaaaaaaaaaaaaaaaaaaaaaaaaaaaaaaaaaaaaaaaaaaaaaaaaaaaaaaaaaaaaaaaaaaaaaaa:-:0",
@@ -210,34 +217,43 @@ fn the_word_of_an_eval_is_a_number(rt: HostRuntime) -> Result<(), Fail> {
     check_faults(&rt, table)
 }
 
-#[test]
-fn an_eval_knows_the_place_of_its_word(rt: HostRuntime) -> Result<(), Fail> {
-    let table: &[(&str, &str)] = &[
-        ("eval c 7 -", "c 7 2"),
-        ("eval - 0xFFFFffffFFFFffff t", "- 18446744073709551615 2"),
-        ("eval -- c 010 -", "c 10 3"),
-        ("eval c -- 0x10 f", "c 16 3"),
-        ("eval c 1 -- t", "c 1 2"),
-    ];
-    for &(line, wanted) in table {
-        let found = word_of(rt.alloc(), line)?;
-        assert!(rt; found.as_str() == wanted, "at {line}");
+// Whether words are an `eval` of this text at this word, which stands at this place.
+fn is_eval(alloc: Global, words: &[String], text: &str, word: u64, place: usize) -> bool {
+    match read_words(alloc, words) {
+        Ok(command) => is_at(&command, text, word, place),
+        Err(_) => false,
     }
-    Ok(())
 }
 
-// The text, the word and its place.
-fn word_of(alloc: Global, line: &str) -> Result<String, Fail> {
-    let words = words_of(alloc, line)?;
-    match read_words(alloc, words.as_slice()) {
-        Ok(
-            Command::Eval {
-                text,
-                word,
-                word_place,
-                ..
-            },
-        ) => Ok(format!(in alloc; "{} {word} {word_place}", text.as_str())?),
-        _ => Err(Fail::from("no `eval`")),
+fn is_at(command: &Command, text: &str, word: u64, place: usize) -> bool {
+    match command {
+        Command::Eval {
+            text: found,
+            word: number,
+            word_place,
+            ..
+        } => found.as_str() == text && *number == word && *word_place == place,
+        _ => false,
     }
+}
+
+#[test]
+fn an_eval_knows_the_place_of_its_word(rt: HostRuntime) -> Result<(), Fail> {
+    let table: &[(&str, &str, u64, usize)] = &[
+        ("eval c 7 -", "c", 7, 2),
+        (
+            "eval - 0xFFFFffffFFFFffff t",
+            "-",
+            18_446_744_073_709_551_615,
+            2,
+        ),
+        ("eval -- c 010 -", "c", 10, 3),
+        ("eval c -- 0x10 f", "c", 16, 3),
+        ("eval c 1 -- t", "c", 1, 2),
+    ];
+    for &(line, text, word, place) in table {
+        let words = words_of(rt.alloc(), line)?;
+        assert!(rt; is_eval(rt.alloc(), words.as_slice(), text, word, place), "at {line}");
+    }
+    Ok(())
 }
