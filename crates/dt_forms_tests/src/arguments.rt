@@ -1,7 +1,7 @@
 //! Pattern lines with fields, sets and arguments of their own.
 
-use crate::reading::{Refusal, Want, check_choices, check_refusals, fault_in, model_in, text};
-use dt_fields::{Detail, FieldDef, Rule, Segment};
+use crate::reading::{Refusal, Want, check_choices, check_fault, check_refusals, model_in};
+use dt_fields::{FieldDef, Rule, Segment};
 use dt_forms::{FieldValue, Model};
 use dt_values::{CType, Name, Width};
 use std::process::Abort;
@@ -125,9 +125,8 @@ fn a_line_gives_at_most_32_arguments(rt: HostRuntime) -> Result<(), Fail> {
     bytes.extend_from_slice(b" %f")?;
     let mut file = Vec::from_slice(rt.alloc(), b"%f 0:1\n")?;
     file.extend_from_slice(bytes.as_slice())?;
-    let fault = fault_in(rt.alloc(), Width::W64, &[file.as_slice()])?;
-    assert!(rt; (fault.line, fault.rule, fault.detail) == (2, Rule::A5, text(last + 8, last + 10)));
-    Ok(())
+    let want = Want::Text(last + 8, last + 10);
+    check_fault(&rt, Width::W64, &[file.as_slice()], (0, 2), Rule::A5, &want)
 }
 
 // The field that the argument at a place gets.

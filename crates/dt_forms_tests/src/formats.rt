@@ -1,7 +1,7 @@
 //! Format lines, constants, and patterns that name a format or take one by inference.
 
 use crate::reading::{Refusal, Want, check_choices, check_refusals, model_in};
-use dt_fields::{Detail, Rule};
+use dt_fields::Rule;
 use dt_forms::{FieldValue, Format, Model, Pattern};
 use dt_values::{Name, Width};
 use std::process::Abort;

@@ -1,12 +1,9 @@
 //! Groups: their rules, and the entries of models (docs/LANGUAGE.md, "Groups").
 
-ghost use Rattle.std.specs.Prelude.{◌≤◌, length};
-
-use crate::reading::{Refusal, Want, check_refusals, fault_in, model_in, text};
-use dt_fields::{Detail, Rule};
+use crate::reading::{Refusal, Want, check_fault, check_refusals, model_in};
+use dt_fields::Rule;
 use dt_forms::{Entry, Group, Model};
 use dt_values::Width;
-use std::alloc::Global;
 use std::process::Abort;
 use std::test::Fail;
 
@@ -83,13 +80,31 @@ fn groups_that_a_file_leaves_open(rt: HostRuntime) -> Result<(), Fail> {
 #[test]
 fn each_file_begins_with_no_group(rt: HostRuntime) -> Result<(), Fail> {
     let open = b"{\n  p ----------------\n";
-    let fault = fault_in(rt.alloc(), Width::W16, &[open, b"}"])?;
-    assert!(rt; (fault.file, fault.line, fault.rule, fault.detail) == (0, 2, Rule::L6, text(0, 1)));
+    check_fault(
+        &rt,
+        Width::W16,
+        &[open, b"}"],
+        (0, 2),
+        Rule::L6,
+        &Want::Text(0, 1),
+    )?;
     let whole = b"{\n  p ----------------\n}\n";
-    let fault = fault_in(rt.alloc(), Width::W16, &[whole, b"}"])?;
-    assert!(rt; (fault.file, fault.line, fault.rule, fault.detail) == (1, 1, Rule::L3, text(0, 1)));
-    let fault = fault_in(rt.alloc(), Width::W16, &[whole, b"", open])?;
-    assert!(rt; (fault.file, fault.line, fault.rule, fault.detail) == (2, 2, Rule::L6, text(0, 1)));
+    check_fault(
+        &rt,
+        Width::W16,
+        &[whole, b"}"],
+        (1, 1),
+        Rule::L3,
+        &Want::Text(0, 1),
+    )?;
+    check_fault(
+        &rt,
+        Width::W16,
+        &[whole, b"", open],
+        (2, 2),
+        Rule::L6,
+        &Want::Text(0, 1),
+    )?;
     Ok(())
 }
 

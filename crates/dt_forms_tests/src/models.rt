@@ -1,6 +1,6 @@
 //! The models of small files, and the faults of whole files.
 
-use crate::reading::{Refusal, Want, check_refusals, fault_in, model_in, sources, text};
+use crate::reading::{Refusal, Want, check_fault, check_refusals, model_in, sources};
 use dt_fields::{Detail, Rule};
 use dt_forms::{Entry, Fault, MOST_FILES, MOST_PATTERNS, Model, ModelFault, Source, first_token};
 use dt_lines::Position;
@@ -137,9 +137,8 @@ fn the_second_file_follows(rt: HostRuntime) -> Result<(), Fail> {
 #[test]
 fn a_fault_of_the_second_file_has_its_place(rt: HostRuntime) -> Result<(), Fail> {
     let first = b"a 0000000000000000\nb 0000000000000001\n";
-    let fault = fault_in(rt.alloc(), Width::W16, &[first, b"\n\na 0"])?;
-    assert!(rt; (fault.file, fault.line, fault.rule) == (1, 3, Rule::G9));
-    Ok(())
+    let texts: &[&[u8]] = &[first, b"\n\na 0"];
+    check_fault(&rt, Width::W16, texts, (1, 3), Rule::G9, &Want::Number(1))
 }
 
 #[test]
@@ -151,12 +150,24 @@ fn a_pattern_too_many(rt: HostRuntime) -> Result<(), Fail> {
     let model = model_in(rt.alloc(), Width::W16, &[bytes.as_slice()])?;
     assert!(rt; model.patterns.items().len() == MOST_PATTERNS);
     let last = bytes.len() as u32;
-    let fault = fault_in(rt.alloc(), Width::W16, &[bytes.as_slice(), b"b -"])?;
-    assert!(rt; (fault.file, fault.line, fault.rule, fault.detail) == (1, 1, Rule::L9, text(0, 1)));
+    check_fault(
+        &rt,
+        Width::W16,
+        &[bytes.as_slice(), b"b -"],
+        (1, 1),
+        Rule::L9,
+        &Want::Text(0, 1),
+    )?;
     bytes.extend_from_slice(b"b -")?;
-    let fault = fault_in(rt.alloc(), Width::W16, &[bytes.as_slice()])?;
-    assert!(rt; (fault.line, fault.rule, fault.detail) == (8193, Rule::L9, text(last, last + 1)));
-    Ok(())
+    let want = Want::Text(last, last + 1);
+    check_fault(
+        &rt,
+        Width::W16,
+        &[bytes.as_slice()],
+        (0, 8193),
+        Rule::L9,
+        &want,
+    )
 }
 
 fn check_has_sets(rt: &impl Abort, model: &Model) -> Result<(), Fail> {
@@ -216,9 +227,7 @@ fn sixteen_files_are_read(rt: HostRuntime) -> Result<(), Fail> {
 fn the_last_of_sixteen_files_is_refused(rt: HostRuntime) -> Result<(), Fail> {
     let mut texts: [&[u8]; MOST_FILES] = [b"a ----------------"; MOST_FILES];
     texts[MOST_FILES - 1] = b"\nb 1";
-    let fault = fault_in(rt.alloc(), Width::W16, &texts)?;
-    assert!(rt; (fault.file, fault.line, fault.rule) == (15, 2, Rule::G9));
-    Ok(())
+    check_fault(&rt, Width::W16, &texts, (15, 2), Rule::G9, &Want::Number(1))
 }
 
 #[test]

@@ -78,8 +78,8 @@ pub fn model_in(alloc: Global, width: Width, texts: &[&[u8]]) -> Result<Model, F
     }
 }
 
-/// The fault of these texts.
-pub fn fault_in(alloc: Global, width: Width, texts: &[&[u8]]) -> Result<Fault, Fail> {
+// The fault of these texts.
+fn fault_in(alloc: Global, width: Width, texts: &[&[u8]]) -> Result<Fault, Fail> {
     if texts.len() > MOST_FILES {
         return Err("too many files".into());
     }
@@ -89,8 +89,8 @@ pub fn fault_in(alloc: Global, width: Width, texts: &[&[u8]]) -> Result<Fault, F
     }
 }
 
-/// The detail of a text.
-pub fn text(start: u32, end: u32) -> Detail {
+// The detail of a text.
+fn text(start: u32, end: u32) -> Detail {
     Detail::Text(Span { start, end })
 }
 
@@ -120,6 +120,29 @@ fn is_wanted(detail: &Detail, want: &Want) -> bool {
 /// A file, and the line, the rule and the detail of its fault.
 pub type Refusal<'a> = (&'a [u8], u32, Rule, Want<'a>);
 
+/// The texts are refused at this file and line, by this rule, and show this.
+pub fn check_fault(
+    rt: &(impl Abort + AllocGlobal),
+    width: Width,
+    texts: &[&[u8]],
+    place: (u16, u32),
+    rule: Rule,
+    want: &Want,
+) -> Result<(), Fail> {
+    let fault = fault_in(rt.alloc(), width, texts)?;
+    assert!(rt;
+        fault.file == place.0 && fault.line == place.1,
+        "line {}",
+        place.1
+    );
+    assert!(rt;
+        fault.rule == rule && is_wanted(&fault.detail, want),
+        "line {}",
+        place.1
+    );
+    Ok(())
+}
+
 /// Each file is refused by its line and its rule.
 pub fn check_refusals(
     rt: &(impl Abort + AllocGlobal),
@@ -127,17 +150,7 @@ pub fn check_refusals(
     table: &[Refusal],
 ) -> Result<(), Fail> {
     for (bytes, line, rule, want) in table {
-        let fault = fault_in(rt.alloc(), width, &[*bytes])?;
-        assert!(rt;
-            fault.file == 0 && fault.line == *line && fault.rule == *rule,
-            "{:?}",
-            std::str::from_utf8(bytes)
-        );
-        assert!(rt;
-            is_wanted(&fault.detail, want),
-            "{:?}",
-            std::str::from_utf8(bytes)
-        );
+        check_fault(rt, width, &[*bytes], (0, *line), *rule, want)?;
     }
     Ok(())
 }
