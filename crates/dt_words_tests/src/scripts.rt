@@ -60,7 +60,10 @@ fn read_holds(alloc: Global, words: &[String], outcomes: &[bool], answers: &[Wan
 fn check_scripts(rt: &(impl Abort + AllocGlobal), table: &[Row]) -> Result<(), Fail> {
     for &(script, outcomes, answers) in table {
         let words = words_with(rt.alloc(), script)?;
-        assert!(rt; read_holds(rt.alloc(), words.as_slice(), outcomes, answers), "at {script}");
+        assert!(rt;
+            read_holds(rt.alloc(), words.as_slice(), outcomes, answers),
+            "at {script}"
+        );
     }
     Ok(())
 }
@@ -74,7 +77,10 @@ fn check_unread(rt: &(impl Abort + AllocGlobal), table: &[&str]) -> Result<(), F
     for &script in table {
         let words = words_with(rt.alloc(), script)?;
         let fault = fault_of(rt.alloc(), words.as_slice());
-        assert!(rt; fault == Some(WordFault::Bad(Usage::U4, Some(3))), "at {script}");
+        assert!(rt;
+            fault == Some(WordFault::Bad(Usage::U4, Some(3))),
+            "at {script}"
+        );
     }
     Ok(())
 }
@@ -178,7 +184,16 @@ fn arguments_and_answers_are_integers(rt: HostRuntime) -> Result<(), Fail> {
 
 #[test]
 fn names_have_at_most_128_bytes(rt: HostRuntime) -> Result<(), Fail> {
-    let read: &[Row] = &[("0:aaaaaaaaaaaaaaaaaaaaaaaaaaaaaaaaaaaaaaaaaaaaaaaaaaaaaaaaaaaaaaaaaaaaaaaaaaaaaaaaaaaaaaaaaaaaaaaaaaaaaaaaaaaaaaaaaaaaaaaaaaaaaaaa:-:0", &[], &[(0, "aaaaaaaaaaaaaaaaaaaaaaaaaaaaaaaaaaaaaaaaaaaaaaaaaaaaaaaaaaaaaaaaaaaaaaaaaaaaaaaaaaaaaaaaaaaaaaaaaaaaaaaaaaaaaaaaaaaaaaaaaaaaaaaa", None, 0)])];
+    let read: &[Row] = &[(
+        "0:aaaaaaaaaaaaaaaaaaaaaaaaaaaaaaaaaaaaaaaaaaaaaaaaaaaaaaaaaaaaaaaaaaaaaaaaaaaaaaaaaaaaaaaaaaaaaaaaaaaaaaaaaaaaaaaaaaaaaaaaaaaaaaaa:-:0",
+        &[],
+        &[(
+            0,
+            "aaaaaaaaaaaaaaaaaaaaaaaaaaaaaaaaaaaaaaaaaaaaaaaaaaaaaaaaaaaaaaaaaaaaaaaaaaaaaaaaaaaaaaaaaaaaaaaaaaaaaaaaaaaaaaaaaaaaaaaaaaaaaaaa",
+            None,
+            0,
+        )],
+    )];
     check_scripts(&rt, read)?;
     let unread: &[&str] = &[
         "0:aaaaaaaaaaaaaaaaaaaaaaaaaaaaaaaaaaaaaaaaaaaaaaaaaaaaaaaaaaaaaaaaaaaaaaaaaaaaaaaaaaaaaaaaaaaaaaaaaaaaaaaaaaaaaaaaaaaaaaaaaaaaaaaaa:-:0",
@@ -253,7 +268,10 @@ fn an_eval_knows_the_place_of_its_word(rt: HostRuntime) -> Result<(), Fail> {
     ];
     for &(line, text, word, place) in table {
         let words = words_of(rt.alloc(), line)?;
-        assert!(rt; is_eval(rt.alloc(), words.as_slice(), text, word, place), "at {line}");
+        assert!(rt;
+            is_eval(rt.alloc(), words.as_slice(), text, word, place),
+            "at {line}"
+        );
     }
     Ok(())
 }
