@@ -95,15 +95,41 @@ fn check_faults(rt: &(impl Abort + AllocGlobal), table: &[(&str, WordFault)]) ->
     Ok(())
 }
 
+// Whether words are an `eval` with these outcomes and no answer.
+fn has_outcomes(alloc: Global, words: &[String], wanted: &[bool]) -> bool {
+    match read_words(alloc, words) {
+        Ok(command) => are_outcomes(&command, wanted),
+        Err(_) => false,
+    }
+}
+
+fn are_outcomes(command: &Command, wanted: &[bool]) -> bool {
+    match command {
+        Command::Eval {
+            outcomes,
+            answers,
+            ..
+        } => outcomes.items() == wanted && answers.items().is_empty(),
+        _ => false,
+    }
+}
+
 #[test]
 fn outcomes_are_in_order(rt: HostRuntime) -> Result<(), Fail> {
-    let table: &[Row] = &[
-        ("-", &[], &[]),
-        ("t", &[true], &[]),
-        ("f,t", &[false, true], &[]),
-        ("t,t,f", &[true, true, false], &[]),
+    let table: &[(&str, &[bool])] = &[
+        ("-", &[]),
+        ("t", &[true]),
+        ("f,t", &[false, true]),
+        ("t,t,f", &[true, true, false]),
     ];
-    check_scripts(&rt, table)
+    for &(script, outcomes) in table {
+        let words = words_with(rt.alloc(), script)?;
+        assert!(rt;
+            has_outcomes(rt.alloc(), words.as_slice(), outcomes),
+            "at {script}"
+        );
+    }
+    Ok(())
 }
 
 #[test]
