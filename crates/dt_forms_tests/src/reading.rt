@@ -83,10 +83,15 @@ fn fault_in(alloc: Global, width: Width, texts: &[&[u8]]) -> Result<Fault, Fail>
     if texts.len() > MOST_FILES {
         return Err("too many files".into());
     }
-    match read_all(alloc, width, texts)? {
-        Err(ModelFault::Broken(fault)) => Ok(fault),
-        _ => Err("no fault".into()),
-    }
+    fault_of(&read_all(alloc, width, texts)?)
+}
+
+// The fault that was found.
+fn fault_of(read: &Result<Model, ModelFault>) -> Result<Fault, Fail> {
+    let Err(ModelFault::Broken(fault)) = read else {
+        return Err("no fault".into());
+    };
+    Ok(*fault)
 }
 
 // The detail of a text.
