@@ -149,7 +149,6 @@ fn a_pattern_too_many(rt: HostRuntime) -> Result<(), Fail> {
     }
     let model = model_in(rt.alloc(), Width::W16, &[bytes.as_slice()])?;
     assert!(rt; model.patterns.items().len() == MOST_PATTERNS);
-    let last = bytes.len() as u32;
     check_fault(
         &rt,
         Width::W16,
@@ -159,7 +158,7 @@ fn a_pattern_too_many(rt: HostRuntime) -> Result<(), Fail> {
         &Want::Text(0, 1),
     )?;
     bytes.extend_from_slice(b"b -")?;
-    let want = Want::Text(last, last + 1);
+    let want = Want::Text(155_648, 155_649);
     check_fault(
         &rt,
         Width::W16,
