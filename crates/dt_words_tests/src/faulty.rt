@@ -6,31 +6,18 @@ use std::alloc::Global;
 use std::process::Abort;
 use std::test::Fail;
 
-fn code(usage: Usage) -> &'static str {
-    match usage {
-        Usage::U1 => "U1",
-        Usage::U2 => "U2",
-        Usage::U3 => "U3",
-        Usage::U4 => "U4",
-        Usage::U5 => "U5",
-        Usage::U6 => "U6",
-        Usage::U7 => "U7",
-        Usage::U8 => "U8",
-    }
-}
-
 // Whether this is what is printed of a fault of the words: its code and its word, as `U5 24`.
 fn prints(words: &[String], fault: WordFault, wanted: &str) -> bool {
     let WordFault::Bad(usage, place) = fault else {
         return false;
     };
     let Some(place) = place else {
-        return wanted == code(usage);
+        return wanted == usage.code();
     };
     let (Some(word), Some((number, printed))) = (words.get(place), wanted.split_once(' ')) else {
         return false;
     };
-    number == code(usage) && printed_word(usage, word.as_str()) == printed.as_bytes()
+    number == usage.code() && printed_word(usage, word.as_str()) == printed.as_bytes()
 }
 
 fn fault_of(alloc: Global, words: &[String]) -> Option<WordFault> {
