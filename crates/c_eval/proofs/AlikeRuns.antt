@@ -2,14 +2,14 @@
 use Rattle.std.proofs.Common.{◌≡◌, ℕ, ◌+◌, ◌==◌, ◌++◌, ◌∷◌, ℤ, Bool, true, false, cond, List, [], Option, Some, None}
 use Rattle.std.proofs.Common.{refl, ap, ap₂, subst}
 use Rattle.std.specs.Prelude.{bit_and, option_and_then, unwrap_or}
-use Rattle.dt_fields.specs.declared.set.SetDef.{SetDef}
+use Rattle.dt_values.specs.declared.set.SetDef.{SetDef}
 use Rattle.c_exprs.specs.Exprs.{Term}
 use Rattle.c_subset.specs.Programs.{Name, Stmt, on_mask, switch, extract, assign, call, Stmts, done, then, Cases}
 use Rattle.c_subset.specs.Programs.{no_case, or_case, Program}
-use Rattle.dt_match.specs.Alike.{AreAlike}
-use Rattle.dt_match.specs.Arguments.{type_in}
-use Rattle.dt_match.specs.Hosts.{Call, Host}
-use Rattle.dt_match.proofs.AlikeTrials.{same_answers}
+use Rattle.dt_host.specs.Alike.{AreAlike}
+use Rattle.dt_values.specs.Members.{type_in}
+use Rattle.dt_host.specs.Hosts.{Call, Host}
+use Rattle.dt_host.proofs.AlikeHosts.{same_answers}
 use Rattle.c_eval.specs.Meaning.{helper_bits}
 use Rattle.c_eval.specs.Runs.{Ended, Held, Standing, Turn, going, ended, go_on, declared_members, assigns_in}
 use Rattle.c_eval.specs.Runs.{held_of, in_decoder, assigned, all_assigned, after_test, run_block, make_live}

@@ -3,8 +3,8 @@ use Rattle.std.proofs.Common.{◌≡◌, ℕ, ◌+◌, ◌<◌, ◌≤◌, List,
 use Rattle.std.proofs.Common.{option_and_then, ap, sym, ◌∙◌}
 use Rattle.std.proofs.lemmas.List.{at_drop_more, at_drop_all}
 use Rattle.dt_values.specs.declared.ctype.Member.{Member}
-use Rattle.dt_match.specs.Arguments.{type_in}
-use Rattle.dt_match.specs.FieldValues.{Answers}
+use Rattle.dt_values.specs.Members.{type_in}
+use Rattle.dt_host.specs.Hosts.{Answers}
 use Rattle.c_exprs.specs.View.{term_of}
 use Rattle.c_exprs.specs.declared.expr.Expr.{Expr}
 use Rattle.c_subset.specs.Programs.{Name}

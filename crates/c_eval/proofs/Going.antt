@@ -2,16 +2,16 @@
 use Rattle.std.proofs.Common.{◌≡◌, ℕ, ◌+◌, ◌<◌, ◌≤◌, Bool, true, false, cond, List, [], ◌∷◌, length, get_or, drop}
 use Rattle.std.proofs.Common.{Option, Some, None, option_map, refl, ap, sym, subst, ◌∙◌, arith}
 use Rattle.std.proofs.lemmas.List.{at_drop_more, at_drop_all}
-use Rattle.dt_fields.specs.declared.set.SetDef.{SetDef}
-use Rattle.dt_match.specs.Hosts.{Call, Host}
-use Rattle.c_subset.specs.Programs.{Name, Program, Stmts, then}
+use Rattle.dt_values.specs.declared.set.SetDef.{SetDef}
+use Rattle.dt_host.specs.Hosts.{Call, Host}
+use Rattle.c_subset.specs.Programs.{Name, Program, then}
 use Rattle.c_subset.specs.View.{stmt_of, stmts_of}
 use Rattle.c_subset.specs.declared.program.Stmt.{Stmt as MadeStmt}
 use Rattle.c_eval.specs.LiveSet.{live_seen, live_with}
-use Rattle.c_eval.specs.Runs.{Held, Live, Standing, Turn, going, ended, go_on, run_one, run_all, run_first, after_test}
-use Rattle.c_eval.specs.Runs.{make_live, make_call, end_or_go_on, ended_true, ended_false, stuck, Run, whole_run}
+use Rattle.c_eval.specs.Runs.{Held, Standing, Turn, going, ended, go_on, run_one, run_all, after_test}
+use Rattle.c_eval.specs.Runs.{make_live, make_call, end_or_go_on}
 use Rattle.c_eval.specs.Runs.{after_call as called}
-use Rattle.c_eval.specs.Turns.{Stands, Turned, ended_seen, kept, one_more, tested, live_turn, after_call}
+use Rattle.c_eval.specs.Turns.{Stands, Turned, kept, one_more, tested, live_turn, after_call}
 use Rattle.c_eval.specs.declared.live.Live.{Live as MadeLive}
 use Rattle.c_eval.specs.declared.turn.Ended.{Ended as MadeEnded}
 use Rattle.c_eval.specs.declared.turn.Ended.TheVariants as endings
@@ -36,7 +36,8 @@ module _ {S : Type 0} (program : Program) (outside : List SetDef) where
       record { live = h.live; tests = ap one_more h.tests ∙ kept_more r.tests; state = h.state }
 
   -- ---- a set becomes live
-  pub turned_live : (set : Name) (held : Option Held) (live : Option MadeLive) (r : Standing S) (made : MadeStanding) (state : S)
+  pub turned_live : (set : Name) (held : Option Held) (live : Option MadeLive) (r : Standing S) (made : MadeStanding)
+      (state : S)
       → option_map (live_seen program outside) live ≡ option_map (live_with set) held
       → Stands program outside r made state
       → Turned program outside (make_live set held r) (live_turn live made) state
@@ -70,7 +71,8 @@ module _ {S : Type 0} (program : Program) (outside : List SetDef) where
     one_run r =
         at_drop_more (λ ys. run_all program outside first word (stmts_of ys) r) xs i x within
         ∙ ap (λ y. run_all program outside first word (then (stmt_of y) (stmts_of (drop (i + 1) xs))) r) (sym is)
-        ∙ ap (λ (h : Host S). go_on (run_one program outside h word (stmt_of x) r) (run_all program outside first word (stmts_of (drop (i + 1) xs)))) (sym same)
+        ∙ ap (λ (h : Host S). go_on (run_one program outside h word (stmt_of x) r)
+        (run_all program outside first word (stmts_of (drop (i + 1) xs)))) (sym same)
 
     going_by : (t : Turn S) (after : MadeStanding) (next : S) (whole : Turn S)
         → Turned program outside t (turns.Going after) next
@@ -80,12 +82,14 @@ module _ {S : Type 0} (program : Program) (outside : List SetDef) where
     going_by (ended how r) after next whole h e = absurd h
 
     pub step_going : (made after : MadeStanding) (state next : S) (turn : MadeTurn) → turn ≡ turns.Going after
-        → ((r : Standing S) → Stands program outside r made state → Turned program outside (run_one program outside host word (stmt_of x) r) turn next)
+        → ((r : Standing S) → Stands program outside r made state
+        → Turned program outside (run_one program outside host word (stmt_of x) r) turn next)
         → (whole : Turn S) → Left program outside first word (drop i xs) made state whole
         → Left program outside first word (drop (i + 1) xs) after next whole
     step_going made after state next turn e turned whole left =
         going_by (run_one program outside host word (stmt_of x) left.now) after next whole
-        (subst (λ (t : MadeTurn). Turned program outside (run_one program outside host word (stmt_of x) left.now) t next) e (turned left.now left.stands))
+        (subst (λ (t : MadeTurn). Turned program outside
+        (run_one program outside host word (stmt_of x) left.now) t next) e (turned left.now left.stands))
         (left.is ∙ one_run left.now)
 
     ended_by : (t : Turn S) (how : MadeEnded) (last : MadeStanding) (next : S) (whole : Turn S)
@@ -98,15 +102,18 @@ module _ {S : Type 0} (program : Program) (outside : List SetDef) where
 
     pub step_ended : (made last : MadeStanding) (how : MadeEnded) (state next : S) (turn : MadeTurn)
         → turn ≡ turns.Ended how last
-        → ((r : Standing S) → Stands program outside r made state → Turned program outside (run_one program outside host word (stmt_of x) r) turn next)
+        → ((r : Standing S) → Stands program outside r made state
+        → Turned program outside (run_one program outside host word (stmt_of x) r) turn next)
         → (whole : Turn S) → Left program outside first word (drop i xs) made state whole
         → Turned program outside whole (turns.Ended how last) next
     step_ended made last how state next turn e turned whole left =
         ended_by (run_one program outside host word (stmt_of x) left.now) how last next whole
-        (subst (λ (t : MadeTurn). Turned program outside (run_one program outside host word (stmt_of x) left.now) t next) e (turned left.now left.stands))
+        (subst (λ (t : MadeTurn). Turned program outside
+        (run_one program outside host word (stmt_of x) left.now) t next) e (turned left.now left.stands))
         (left.is ∙ one_run left.now)
 
-  pub left_none : (host : Host S) (word : ℕ) (xs : List MadeStmt) (i : ℕ) (made : MadeStanding) (state : S) (whole : Turn S)
+  pub left_none : (host : Host S) (word : ℕ) (xs : List MadeStmt) (i : ℕ) (made : MadeStanding) (state : S)
+      (whole : Turn S)
       → length xs ≤ i
       → Left program outside host word (drop i xs) made state whole
       → Turned program outside whole (turns.Going made) state

@@ -5,19 +5,18 @@ use Rattle.std.specs.Prelude.{unwrap_or, IfSome}
 use Rattle.std.proofs.lemmas.Slice.Eq.{bytes_eq-Decides}
 use Rattle.dt_values.specs.Types.{is_text}
 use Rattle.dt_values.specs.declared.ctype.Member.{Member}
-use Rattle.dt_fields.specs.SetsByName.{set_at}
-use Rattle.dt_fields.specs.declared.set.SetDef.{SetDef}
+use Rattle.dt_values.specs.SetsByName.{set_at}
+use Rattle.dt_values.specs.declared.set.SetDef.{SetDef}
 use Rattle.c_subset.specs.Programs.{Name, Program}
 use Rattle.c_eval.specs.Lists.{members_at}
 use Rattle.c_eval.specs.LiveSet.{held_in, arguments_of, live_seen, live_with}
 use Rattle.c_exprs.specs.Exprs.{Assignment, Term}
-use Rattle.dt_match.specs.Arguments.{type_in}
-use Rattle.dt_match.specs.Hosts.{Host}
+use Rattle.dt_values.specs.Members.{type_in}
+use Rattle.dt_host.specs.Hosts.{Host}
 use Rattle.c_eval.specs.Meaning.{helper_bits}
 use Rattle.c_eval.specs.Places.{place_of}
 use Rattle.c_eval.specs.Runs.{Held, Live, Standing, all_assigned, all_lost, assigned, assigns_in, declared_members}
-use Rattle.c_eval.specs.Runs.{held_after_assignment}
-use Rattle.c_eval.specs.Runs.{held_after_extraction, held_of, in_decoder, place_in_decoder}
+use Rattle.c_eval.specs.Runs.{held_after_assignment, held_after_extraction, held_of, in_decoder, place_in_decoder}
 use Rattle.c_eval.specs.declared.live.Live.{Live as Made}
 
 -- ---- sets of the text, and then those outside of it
@@ -62,7 +61,8 @@ pub live_other : (program : Program) (outside : List SetDef) (l made : Made) (se
     → ((ms : List Member) → held_in ms made.items made.held ≡ all_lost)
     → live_seen program outside made ≡ live_with set (held_of (Some (live_seen program outside l)) set)
 live_other program outside l made set e is lost =
-    ap₂ live_with is (lost (arguments_of program outside made.set) ∙ sym (ap (λ b. cond b (live_seen program outside l).held all_lost) e))
+    ap₂ live_with is (lost (arguments_of program outside made.set)
+    ∙ sym (ap (λ b. cond b (live_seen program outside l).held all_lost) e))
 
 pub live_first : (program : Program) (outside : List SetDef) (made : Made) (set : Name) → made.set ≡ set
     → ((ms : List Member) → held_in ms made.items made.held ≡ all_lost)
@@ -74,14 +74,16 @@ pub arguments_are : (program : Program) (outside : List SetDef) (set : Name) (ms
     → Some ms ≡ declared_members program outside set → arguments_of program outside set ≡ ms
 arguments_are program outside set ms e = sym (ap (λ o. unwrap_or o []) e)
 
-pub seen_made : (program : Program) (outside : List SetDef) (set : Name) (ms : List Member) (result : Option Made) (held : Option Held)
+pub seen_made : (program : Program) (outside : List SetDef) (set : Name) (ms : List Member) (result : Option Made)
+    (held : Option Held)
     → Some ms ≡ declared_members program outside set
     → option_map (λ (l : Made). held_in ms l.items l.held) result ≡ held
     → IfSome result (λ (l : Made). l.set ≡ set)
     → option_map (live_seen program outside) result ≡ option_map (live_with set) held
 seen_made program outside set ms None held declared e is = ap (option_map (live_with set)) e
 seen_made program outside set ms (Some l) held declared e is =
-    ap (λ x. Some x) (ap₂ live_with is (ap (λ xs. held_in xs l.items l.held) (ap (arguments_of program outside) is ∙ arguments_are program outside set ms declared)))
+    ap (λ x. Some x) (ap₂ live_with is (ap (λ xs. held_in xs l.items l.held) (ap (arguments_of program outside) is
+    ∙ arguments_are program outside set ms declared)))
     ∙ ap (option_map (live_with set)) e
 
 module _ {S : Type 0} (program : Program) (outside : List SetDef) (host : Host S) (word : ℕ) (set : Name)
@@ -105,30 +107,41 @@ module _ {S : Type 0} (program : Program) (outside : List SetDef) (host : Host S
 
     pub seen_assigned : (name : Name) (e : Term) (result : Option Made)
         → option_map (λ (l : Made). held_in ms l.items l.held) result
-        ≡ assigned (place_of program.width word (in_decoder (option_map (live_seen program outside) live)) (host.answer state)) (type_in ms name) name e (held_in ms start.items start.held)
+        ≡ assigned (place_of program.width word (in_decoder (option_map (live_seen program outside) live))
+        (host.answer state)) (type_in ms name) name e (held_in ms start.items start.held)
         → IfSome result (λ (l : Made). l.set ≡ start.set)
-        → option_map (live_seen program outside) result ≡ option_map (live_with set) (held_after_assignment program outside host word set name e r)
+        → option_map (live_seen program outside) result
+        ≡ option_map (live_with set) (held_after_assignment program outside host word set name e r)
     seen_assigned name e result is same =
         seen_made program outside set ms result (held_after_assignment program outside host word set name e r) declared
         (is
-        ∙ ap (λ held. assigned (place_of program.width word (in_decoder (option_map (live_seen program outside) live)) (host.answer state)) (type_in ms name) name e held) held_first
-        ∙ ap (λ (v : Option Live). assigned (place_of program.width word (in_decoder v) (host.answer state)) (type_in ms name) name e (held_of r.live set)) (sym live_is)
-        ∙ ap (λ s. assigned (place_of program.width word (in_decoder r.live) (host.answer s)) (type_in ms name) name e (held_of r.live set)) (sym state_is)
-        ∙ ap (option_and_then (λ members. assigned (place_in_decoder program host word r) (type_in members name) name e (held_of r.live set))) declared)
+        ∙ ap (λ held. assigned (place_of program.width word (in_decoder (option_map (live_seen program outside) live))
+        (host.answer state)) (type_in ms name) name e held) held_first
+        ∙ ap (λ (v : Option Live). assigned (place_of program.width word (in_decoder v) (host.answer state))
+        (type_in ms name) name e (held_of r.live set)) (sym live_is)
+        ∙ ap (λ s. assigned (place_of program.width word (in_decoder r.live) (host.answer s)) (type_in ms name) name e
+        (held_of r.live set)) (sym state_is)
+        ∙ ap (option_and_then (λ members. assigned (place_in_decoder program host word r) (type_in members name) name e
+        (held_of r.live set))) declared)
         (moved result same)
 
     pub seen_extracted : (format : Name) (assigns : List Assignment) (result : Option Made)
         → Some assigns ≡ assigns_in program.extracts format set
         → option_map (λ (l : Made). held_in ms l.items l.held) result
-        ≡ all_assigned (helper_bits program.width) word (host.answer state) ms assigns (held_in ms start.items start.held)
+        ≡ all_assigned (helper_bits program.width) word (host.answer state) ms assigns
+        (held_in ms start.items start.held)
         → IfSome result (λ (l : Made). l.set ≡ start.set)
-        → option_map (live_seen program outside) result ≡ option_map (live_with set) (held_after_extraction program outside host word format set r)
+        → option_map (live_seen program outside) result
+        ≡ option_map (live_with set) (held_after_extraction program outside host word format set r)
     seen_extracted format assigns result found is same =
         seen_made program outside set ms result (held_after_extraction program outside host word format set r) declared
         (is
         ∙ ap (all_assigned (helper_bits program.width) word (host.answer state) ms assigns) held_first
         ∙ ap (λ s. all_assigned (helper_bits program.width) word (host.answer s) ms assigns (held_of r.live set))
         (sym state_is)
-        ∙ ap (option_and_then (λ given. all_assigned (helper_bits program.width) word (host.answer r.state) ms given (held_of r.live set))) found
-        ∙ ap (option_and_then (λ members. option_and_then (λ given. all_assigned (helper_bits program.width) word (host.answer r.state) members given (held_of r.live set)) (assigns_in program.extracts format set))) declared)
+        ∙ ap (option_and_then (λ given. all_assigned (helper_bits program.width) word (host.answer r.state) ms given
+        (held_of r.live set))) found
+        ∙ ap (option_and_then (λ members. option_and_then
+        (λ given. all_assigned (helper_bits program.width) word (host.answer r.state) members given
+        (held_of r.live set)) (assigns_in program.extracts format set))) declared)
         (moved result same)

@@ -3,13 +3,13 @@ use Rattle.std.proofs.Common.{◌≡◌, ◌≤◌, ℕ, ◌+◌, ◌==◌, ℤ,
 use Rattle.std.proofs.Common.{Option, Some, None, refl, ap, ◌∙◌, sym, arith}
 use Rattle.std.specs.Prelude.{bit_and}
 use Rattle.std.proofs.lemmas.List.{length-append, length_push}
-use Rattle.dt_fields.specs.declared.set.SetDef.{SetDef}
+use Rattle.dt_values.specs.declared.set.SetDef.{SetDef}
 use Rattle.c_subset.specs.Programs.{Name, Stmt, on_mask, switch, extract, assign, call, Stmts, done, then, Cases}
 use Rattle.c_subset.specs.Programs.{no_case, or_case, Program}
 use Rattle.c_subset.specs.Sites.{call_sites_in, call_sites, call_sites_of_cases}
 use Rattle.c_subset.specs.Sites.{statements_from, statements_in, statements_of_cases}
-use Rattle.dt_match.specs.Alike.{state_after}
-use Rattle.dt_match.specs.Hosts.{Call, Host}
+use Rattle.dt_host.specs.Alike.{state_after}
+use Rattle.dt_host.specs.Hosts.{Call, Host}
 use Rattle.c_eval.specs.Runs.{Held, Standing, Turn, going, ended, go_on, after_test, run_block, make_live}
 use Rattle.c_eval.specs.Runs.{held_after_extraction, held_after_assignment, values_of_call, after_call, end_or_go_on}
 use Rattle.c_eval.specs.Runs.{run_call, run_one, run_all, run_first, whole_run, at_start, run_of}

@@ -1,12 +1,12 @@
 -- Runs with a script in memory and with the plain one of its lists.
 use Rattle.std.proofs.Common.{◌≡◌, ◌≤◌, ℕ, suc, ◌+◌, List, [], ◌∷◌, ◌++◌, length, map, refl, ap, sym, ◌∙◌, arith}
 use Rattle.std.proofs.lemmas.List.{length-append, length-map, take_all}
-use Rattle.dt_fields.specs.declared.set.SetDef.{SetDef}
+use Rattle.dt_values.specs.declared.set.SetDef.{SetDef}
 use Rattle.c_subset.specs.Programs.{Program}
 use Rattle.c_subset.specs.Sites.{call_sites}
-use Rattle.dt_match.specs.Alike.{AreAlike, state_after}
-use Rattle.dt_match.specs.Hosts.{Call}
-use Rattle.dt_match.specs.Scripts.{IsAfter, ScriptMemory, after_calls, kept_call, memory_host, plain_script, up_to_end}
+use Rattle.dt_host.specs.Alike.{AreAlike, state_after}
+use Rattle.dt_host.specs.Hosts.{Call}
+use Rattle.dt_host.specs.Scripts.{IsAfter, ScriptMemory, after_calls, kept_call, memory_host, plain_script, up_to_end}
 use Rattle.c_eval.specs.Runs.{run_of}
 use Rattle.c_eval.specs.ScriptRuns.{IsPlainRun}
 use Rattle.c_eval.proofs.AlikeRuns.{alike_runs}

@@ -5,9 +5,9 @@ use Rattle.std.specs.Prelude.{All, AllPairs}
 use Rattle.std.proofs.lemmas.List.Elements.{All-cons, All-nil}
 use Rattle.std.proofs.lemmas.List.Kept.{AllPairs-cons}
 use Rattle.dt_values.specs.declared.ctype.Member.{Member}
-use Rattle.dt_fields.specs.declared.set.SetDef.{SetDef}
+use Rattle.dt_values.specs.declared.set.SetDef.{SetDef}
 use Rattle.c_subset.specs.Keeps.{SetKeeps, KeepsRules}
-use Rattle.c_subset.specs.Programs.{Name, Program}
+use Rattle.c_subset.specs.Programs.{Program}
 use Rattle.c_eval.specs.Conditions.{ArgumentsKeep, SetRuns}
 
 abbrev Differ : Member → Member → Type 0

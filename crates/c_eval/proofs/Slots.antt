@@ -11,10 +11,10 @@ use Rattle.dt_values.specs.declared.ctype.CType.{CType}
 use Rattle.dt_values.specs.declared.ctype.Member.{Member}
 use Rattle.dt_values.specs.Stored.{stored}
 use Rattle.c_subset.specs.Programs.{Name}
-use Rattle.dt_match.specs.Arguments.{type_in}
+use Rattle.dt_values.specs.Members.{type_in}
 use Rattle.std.specs.List.{AllPairs}
 use Rattle.dt_values.specs.Held.{AreStored}
-use Rattle.c_eval.specs.Runs.{Held, put, all_lost, all_values}
+use Rattle.c_eval.specs.Runs.{put, all_lost, all_values}
 use Rattle.c_eval.specs.LiveSet.{held_in, unless_lost, place_in}
 
 -- ---- all lost
@@ -35,30 +35,35 @@ lost_all ms items k = fun_ext (lost_each ms items k)
 -- ---- one after another
 after_suc : (ms : List Member) (items : List ℤ) (held : List Bool) (n : Name) (i : ℕ) (m : Member) → i < length ms
     → i < length items → i < length held → m ≡ get_or ms i m → is_text n m.name ≡ false
-    → held_in (drop (suc i) ms) (drop (suc i) items) (drop (suc i) held) n ≡ held_in (drop i ms) (drop i items) (drop i held) n
+    → held_in (drop (suc i) ms) (drop (suc i) items) (drop (suc i) held) n
+    ≡ held_in (drop i ms) (drop i items) (drop i held) n
 after_suc [] items held n i m h k l is e = absurd (omega arith)
 after_suc (x ∷ xs) [] held n i m h k l is e = absurd (omega arith)
 after_suc (x ∷ xs) (z ∷ zs) [] n i m h k l is e = absurd (omega arith)
 after_suc (x ∷ xs) (z ∷ zs) (b ∷ bs) n zero m h k l is e =
-    sym (ap (λ c. cond c (unless_lost b (stored x.ctype z)) (held_in xs zs bs n)) (ap (λ (y : Member). is_text n y.name) (sym is) ∙ e))
+    sym (ap (λ c. cond c (unless_lost b (stored x.ctype z)) (held_in xs zs bs n))
+    (ap (λ (y : Member). is_text n y.name) (sym is) ∙ e))
 after_suc (x ∷ xs) (z ∷ zs) (b ∷ bs) n (suc i) m h k l is e =
     after_suc xs zs bs n i m (omega arith) (omega arith) (omega arith) is e
 
 pub held_more : (ms : List Member) (items : List ℤ) (held : List Bool) (n : Name) (i : ℕ) (m : Member) → i < length ms
     → i < length items → i < length held → m ≡ get_or ms i m → is_text n m.name ≡ false
-    → held_in (drop (i + 1) ms) (drop (i + 1) items) (drop (i + 1) held) n ≡ held_in (drop i ms) (drop i items) (drop i held) n
+    → held_in (drop (i + 1) ms) (drop (i + 1) items) (drop (i + 1) held) n
+    ≡ held_in (drop i ms) (drop i items) (drop i held) n
 held_more ms items held n i m h k l is e =
     ap (λ j. held_in (drop j ms) (drop j items) (drop j held) n) (add-one i) ∙ after_suc ms items held n i m h k l is e
 
 pub held_here : (ms : List Member) (items : List ℤ) (held : List Bool) (n : Name) (i : ℕ) (m : Member) → i < length ms
     → i < length items → i < length held → m ≡ get_or ms i m → is_text n m.name ≡ true
-    → unless_lost (get_or held i false) (stored m.ctype (get_or items i (pos 0))) ≡ held_in (drop i ms) (drop i items) (drop i held) n
+    → unless_lost (get_or held i false) (stored m.ctype (get_or items i (pos 0)))
+    ≡ held_in (drop i ms) (drop i items) (drop i held) n
 held_here [] items held n i m h k l is e = absurd (omega arith)
 held_here (x ∷ xs) [] held n i m h k l is e = absurd (omega arith)
 held_here (x ∷ xs) (z ∷ zs) [] n i m h k l is e = absurd (omega arith)
 held_here (x ∷ xs) (z ∷ zs) (b ∷ bs) n zero m h k l is e =
     ap (λ (y : Member). unless_lost b (stored y.ctype z)) is
-    ∙ sym (ap (λ c. cond c (unless_lost b (stored x.ctype z)) (held_in xs zs bs n)) (ap (λ (y : Member). is_text n y.name) (sym is) ∙ e))
+    ∙ sym (ap (λ c. cond c (unless_lost b (stored x.ctype z)) (held_in xs zs bs n))
+    (ap (λ (y : Member). is_text n y.name) (sym is) ∙ e))
 held_here (x ∷ xs) (z ∷ zs) (b ∷ bs) n (suc i) m h k l is e =
     held_here xs zs bs n i m (omega arith) (omega arith) (omega arith) is e
 
@@ -91,11 +96,14 @@ never (Some k) e = absurd (cc)
 of_some : (i j : ℕ) → Some i ≡ Some j → i ≡ j
 of_some i j e = ap (λ o. unwrap_or o i) e
 
-put_at : (m : Member) (ms : List Member) (y : ℤ) (ys : List ℤ) (b : Bool) (bs : List Bool) (i : ℕ) (a : Name) (t : CType) (z : ℤ) (n : Name) (c : Bool)
+put_at : (m : Member) (ms : List Member) (y : ℤ) (ys : List ℤ) (b : Bool) (bs : List Bool) (i : ℕ) (a : Name)
+    (t : CType) (z : ℤ) (n : Name) (c : Bool)
     → is_text a m.name ≡ c → cond c (Some 0) (option_map suc (place_in ms a)) ≡ Some i
     → cond c (Some m.ctype) (type_in ms a) ≡ Some t
-    → ((j : ℕ) → place_in ms a ≡ Some j → type_in ms a ≡ Some t → held_in ms (set ys j z) (set bs j true) n ≡ put a (stored t z) (held_in ms ys bs) n)
-    → held_in (m ∷ ms) (set (y ∷ ys) i z) (set (b ∷ bs) i true) n ≡ put a (stored t z) (held_in (m ∷ ms) (y ∷ ys) (b ∷ bs)) n
+    → ((j : ℕ) → place_in ms a ≡ Some j → type_in ms a ≡ Some t
+    → held_in ms (set ys j z) (set bs j true) n ≡ put a (stored t z) (held_in ms ys bs) n)
+    → held_in (m ∷ ms) (set (y ∷ ys) i z) (set (b ∷ bs) i true) n
+    ≡ put a (stored t z) (held_in (m ∷ ms) (y ∷ ys) (b ∷ bs)) n
 put_at m ms y ys b bs zero a t z n true is e typed more =
     ap (λ u. cond (is_text n m.name) (Some (stored u z)) (held_in ms ys bs n)) (ap (λ o. unwrap_or o t) typed)
     ∙ put_here (is_text n m.name) (is_text n a) (stored t z) (unless_lost b (stored m.ctype y)) (held_in ms ys bs n)
@@ -139,7 +147,13 @@ placed_by m ms a zero false t e more = absurd (never (place_in ms a) e)
 placed_by m ms a (suc i) false t e more =
     let h = more i (back (place_in ms a) i e) in
     let k = h.within in
-    record { member = h.member; is = h.is; typed = ap (λ b. cond b (Some m.ctype) (type_in ms a)) t ∙ h.typed; within = omega arith }
+    record {
+      member = h.member;
+      is = h.is;
+      typed = ap (λ b. cond b (Some m.ctype) (type_in ms a)) t ∙ h.typed;
+      within =
+          omega arith;
+    }
 
 pub placed : (ms : List Member) (a : Name) (i : ℕ) → place_in ms a ≡ Some i → Placed ms a i
 placed [] a i e = absurd (cc)
@@ -157,7 +171,8 @@ not_placed (m ∷ ms) a e = not_placed_by m.ctype (is_text a m.name) (place_in m
 
 pub assign_some : (ms : List Member) (items : List ℤ) (held : List Bool) (i : ℕ) (a : Name) (number : ℤ)
     → place_in ms a ≡ Some i → length ms ≤ length items → length ms ≤ length held
-    → Some (held_in ms (set items i number) (set held i true)) ≡ option_map (λ t. put a (stored t number) (held_in ms items held)) (type_in ms a)
+    → Some (held_in ms (set items i number) (set held i true))
+    ≡ option_map (λ t. put a (stored t number) (held_in ms items held)) (type_in ms a)
 assign_some ms items held i a number e h k =
     let p = placed ms a i e in
     ap (λ f. Some f) (put_is ms items held i a p.member.ctype number e p.typed h k)
@@ -234,18 +249,23 @@ number_at t items out k h l e =
     ap (λ o. unwrap_or o (pos 0)) (sym other ∙ e ∙ ap (option_map (stored t)) one)
 
 module _ (ms : List Member) (items : List ℤ) (held : List Bool)
-    (differ : AllPairs (λ (a b : Member). a.name ≢ b.name) ms) (h : length ms ≤ length items) (l : length ms ≤ length held)
+    (differ : AllPairs (λ (a b : Member). a.name ≢ b.name) ms) (h : length ms ≤ length items)
+    (l : length ms ≤ length held)
   where
     pub handed_none : (k : ℕ) → k < length ms → get_or held k false ≡ false
         → all_values (map (λ m. held_in ms items held m.name) ms) ≡ None
     handed_none k within lost =
         let p = some_at ms k within in
         one_lost (λ m. held_in ms items held m.name) ms k p.0 p.1
-        (held_own ms items held k p.0 differ p.1 h l ∙ ap (λ b. unless_lost b (stored p.0.ctype (get_or items k (pos 0)))) lost)
+        (held_own ms items held k p.0 differ p.1 h l
+        ∙ ap (λ b. unless_lost b (stored p.0.ctype (get_or items k (pos 0)))) lost)
 
     pub handed_all : (out : List ℤ) → length ms ≤ length out → AreStored ms items out
         → ((k : ℕ) → k < length ms → get_or held k false ≡ true)
         → all_values (map (λ m. held_in ms items held m.name) ms) ≡ Some (take (length ms) out)
     handed_all out le stored_out all =
         all_taken (λ m. held_in ms items held m.name) ms out le
-        (λ k m e. held_own ms items held k m differ e h l ∙ ap (λ b. unless_lost b (stored m.ctype (get_or items k (pos 0)))) (all k (inside ms k m e)) ∙ ap (λ z. Some z) (sym (number_at m.ctype items out k (let w = inside ms k m e in omega arith) (let w = inside ms k m e in omega arith) (stored_out k m e))))
+        (λ k m e. held_own ms items held k m differ e h l
+        ∙ ap (λ b. unless_lost b (stored m.ctype (get_or items k (pos 0)))) (all k (inside ms k m e))
+        ∙ ap (λ z. Some z) (sym (number_at m.ctype items out k (let w = inside ms k m e in omega arith) (let w =
+        inside ms k m e in omega arith) (stored_out k m e))))

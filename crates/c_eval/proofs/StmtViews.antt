@@ -42,7 +42,8 @@ pub seen_if : {s : MadeStmt} {m b : ℕ} (v : Vec MadeStmt Global) {ss : List Ma
     → stmt_of s ≡ on_mask m b (stmts_of ss)
 seen_if {s} {m} {b} v {ss} e f = ap stmt_of e ∙ view_if m b v ∙ ap (λ l. on_mask m b (stmts_of l)) (sym f)
 
-pub seen_switch : {s : MadeStmt} {m : ℕ} (v : Vec (ℕ × Vec MadeStmt Global) Global) {cs : List (ℕ × Vec MadeStmt Global)}
+pub seen_switch : {s : MadeStmt} {m : ℕ}
+    (v : Vec (ℕ × Vec MadeStmt Global) Global) {cs : List (ℕ × Vec MadeStmt Global)}
     → s ≡ Switch m v → cs ≡ v.items → stmt_of s ≡ switch m (cases_of cs)
 seen_switch {s} {m} v {cs} e f = ap stmt_of e ∙ view_switch m v ∙ ap (λ l. switch m (cases_of l)) (sym f)
 

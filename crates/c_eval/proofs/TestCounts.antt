@@ -2,19 +2,19 @@
 use Rattle.std.proofs.Common.{◌≡◌, ℕ, ◌+◌, ◌≤◌, Bool, true, false, cond, List, ℤ, Option, Some, None, ◌<◌, ◌^◌, refl}
 use Rattle.std.proofs.Common.{sym, subst, arith}
 use Rattle.std.specs.Prelude.{bit_and, ◌==◌}
-use Rattle.dt_fields.specs.declared.set.SetDef.{SetDef}
-use Rattle.dt_match.specs.Hosts.{Call, Host}
+use Rattle.dt_values.specs.declared.set.SetDef.{SetDef}
+use Rattle.dt_host.specs.Hosts.{Call, Host}
 use Rattle.c_subset.specs.Programs.{Name, Program, Stmt, on_mask, switch, extract, assign, call, Stmts, done, then}
 use Rattle.c_subset.specs.Programs.{Cases, no_case, or_case}
 use Rattle.c_subset.specs.Sites.{statements_from, statements_in, statements_of_cases}
-use Rattle.c_eval.specs.Turns.{Stands, Turned, kept}
+use Rattle.c_eval.specs.Turns.{Stands, Turned}
 use Rattle.c_eval.specs.declared.turn.Ended.{Ended as MadeEnded}
 use Rattle.c_eval.specs.declared.turn.Standing.{Standing as MadeStanding}
 use Rattle.c_eval.specs.declared.turn.Turn.{Turn as MadeTurn}
 use Rattle.c_eval.specs.declared.turn.Turn.TheVariants as turns
 use Rattle.c_eval.specs.Runs.{at_start, run_of, whole_run}
 use Rattle.c_eval.specs.Runs.{Held, Standing, Turn, going, ended, go_on, run_one, run_all, run_first, run_block}
-use Rattle.c_eval.specs.Runs.{run_call, after_test, make_live, make_call, end_or_go_on, after_call}
+use Rattle.c_eval.specs.Runs.{run_call, after_test, make_live, end_or_go_on, after_call}
 use Rattle.c_eval.specs.Runs.{held_after_extraction, held_after_assignment, values_of_call}
 
 abbrev pub tests_by : {S : Type 0} → Turn S → ℕ
@@ -105,14 +105,16 @@ module _ {S : Type 0} (program : Program) (outside : List SetDef) (host : Host S
       → statements_in program.body < 2 ^ 64 → made.tests ≡ (run_of program outside host word state).tests
   tests_going turn made next e h few =
       going_tests (run_all program outside host word program.body (at_start state)) made next
-      (subst (λ (t : MadeTurn). Turned program outside (run_all program outside host word program.body (at_start state)) t next) e h) (few_tests few)
+      (subst (λ (t : MadeTurn). Turned program outside
+      (run_all program outside host word program.body (at_start state)) t next) e h) (few_tests few)
 
   pub tests_ended : (turn : MadeTurn) (how : MadeEnded) (made : MadeStanding) (next : S) → turn ≡ turns.Ended how made
       → Turned program outside (run_all program outside host word program.body (at_start state)) turn next
       → statements_in program.body < 2 ^ 64 → made.tests ≡ (run_of program outside host word state).tests
   tests_ended turn how made next e h few =
       ended_tests (run_all program outside host word program.body (at_start state)) how made next
-      (subst (λ (t : MadeTurn). Turned program outside (run_all program outside host word program.body (at_start state)) t next) e h) (few_tests few)
+      (subst (λ (t : MadeTurn). Turned program outside
+      (run_all program outside host word program.body (at_start state)) t next) e h) (few_tests few)
 
   pub starts : (made : MadeStanding) → made ≡ record { live = None; tests = 0 }
       → Stands program outside (at_start state) made state

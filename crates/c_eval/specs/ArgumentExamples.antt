@@ -3,12 +3,12 @@ use Rattle.std.specs.Prelude.{ℕ, true, false, List, [], ◌∷◌, ℤ, pos, S
 use Rattle.dt_values.specs.declared.ctype.CType.TheVariants.{Int, I8}
 use Rattle.dt_values.specs.declared.width.Width.{Width}
 use Rattle.dt_values.specs.declared.width.Width.TheVariants.{W32}
-use Rattle.dt_fields.specs.declared.set.SetDef.{SetDef}
+use Rattle.dt_values.specs.declared.set.SetDef.{SetDef}
 use Rattle.c_exprs.specs.Exprs.{argument, Term, constant, segment, function, Assignment}
 use Rattle.c_subset.specs.Programs.{Name, Stmt, extract, assign, call, Extraction, Program}
 use Rattle.c_subset.specs.View.{stmts_from}
-use Rattle.dt_match.specs.Examples.{imm, member_of, rd, size_name}
-use Rattle.dt_match.specs.Hosts.{Call}
+use Rattle.dt_host.specs.Examples.{imm, member_of, rd, size_name}
+use Rattle.dt_host.specs.Hosts.{Call}
 use Rattle.c_eval.specs.Examples.{run_with, scripted_run}
 use Rattle.c_eval.specs.ExprExamples.{extract_bits, extract_low, few_answers}
 use Rattle.c_eval.specs.Runs.{ended_true, ended_false, stuck, Run}

@@ -1,10 +1,10 @@
 -- Programs without values whose runs are written out.
 use Rattle.std.specs.Prelude.{ℕ, Bool, true, false, List, [], ◌∷◌, codes}
 use Rattle.dt_values.specs.declared.ctype.CType.TheVariants.{Int}
-use Rattle.dt_fields.specs.declared.set.SetDef.{SetDef}
+use Rattle.dt_values.specs.declared.set.SetDef.{SetDef}
 use Rattle.c_subset.specs.Examples.{nop_program}
 use Rattle.c_subset.specs.Programs.{Name, Stmts, on_mask, extract, call, done, then, Program}
-use Rattle.dt_match.specs.Hosts.{Answer, Call, script}
+use Rattle.dt_host.specs.Hosts.{Answer, Call, script}
 use Rattle.c_eval.specs.Runs.{Ended, Run, run_of}
 
 abbrev pub nop_name : Name

@@ -2,8 +2,8 @@
 use Rattle.std.specs.Prelude.{ℕ, true, false, List, ◌∷◌, ℤ, pos, negsuc, Option, Some, None, if◌then◌else◌}
 use Rattle.dt_values.specs.Types.{is_text}
 use Rattle.c_exprs.specs.Exprs.{insn, argument, Term, segment, deposit}
-use Rattle.dt_match.specs.Examples.{answer_to, growing_sizes, imm, shift_name}
-use Rattle.dt_match.specs.Hosts.{Answer, answer_at}
+use Rattle.dt_host.specs.Examples.{answer_to, growing_sizes, imm, shift_name}
+use Rattle.dt_host.specs.Hosts.{Answer, answer_at}
 use Rattle.c_eval.specs.Meaning.{value_at}
 
 -- of all arguments, `imm` alone holds a number: -9

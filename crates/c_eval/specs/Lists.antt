@@ -3,8 +3,8 @@ use Rattle.std.specs.Prelude.{Bool, ◌&&◌, List, Option, option_map}
 use Rattle.std.specs.List.{list_any}
 use Rattle.dt_values.specs.Types.{is_text}
 use Rattle.dt_values.specs.declared.ctype.Member.{Member}
-use Rattle.dt_fields.specs.SetsByName.{set_at}
-use Rattle.dt_fields.specs.declared.set.SetDef.{SetDef}
+use Rattle.dt_values.specs.SetsByName.{set_at}
+use Rattle.dt_values.specs.declared.set.SetDef.{SetDef}
 use Rattle.c_subset.specs.Programs.{Name, Pattern}
 
 -- the arguments of the set of this name

@@ -4,7 +4,7 @@ use Rattle.std.specs.Prelude.{if◌then◌else◌}
 use Rattle.dt_values.specs.Stored.{stored}
 use Rattle.dt_values.specs.Types.{is_text}
 use Rattle.dt_values.specs.declared.ctype.Member.{Member}
-use Rattle.dt_fields.specs.declared.set.SetDef.{SetDef}
+use Rattle.dt_values.specs.declared.set.SetDef.{SetDef}
 use Rattle.c_subset.specs.Programs.{Name, Program}
 use Rattle.c_eval.specs.Runs.{Held, Live, declared_members}
 use Rattle.c_eval.specs.declared.live.Live.{Live as Made}

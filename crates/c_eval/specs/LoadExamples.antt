@@ -3,8 +3,7 @@ use Rattle.std.specs.Prelude.{ℕ, List, [], ◌∷◌, Option, Some, None}
 use Rattle.dt_values.specs.declared.width.Width.{Width}
 use Rattle.c_subset.specs.Examples.{nop_program}
 use Rattle.c_subset.specs.Programs.{LoadBlock, load_block, no_switch, load_switch, LoadCases, no_load_case}
-use Rattle.c_subset.specs.Programs.{or_load_case}
-use Rattle.c_subset.specs.Programs.{Program}
+use Rattle.c_subset.specs.Programs.{or_load_case, Program}
 use Rattle.c_eval.specs.Loads.{load_of}
 
 abbrev pub loading : Width → LoadBlock → Program

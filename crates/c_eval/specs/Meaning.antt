@@ -5,7 +5,7 @@ use Rattle.dt_values.specs.BitFields.{bits_at, signed, deposited, residue}
 use Rattle.dt_values.specs.declared.width.Width.{Width}
 use Rattle.dt_values.specs.declared.width.Width.TheVariants.{W16, W32, W64}
 use Rattle.c_exprs.specs.Exprs.{Source, insn, argument, Term, constant, segment, deposit, cast, function, applied}
-use Rattle.dt_match.specs.FieldValues.{Answers}
+use Rattle.dt_host.specs.Hosts.{Answers}
 
 -- the helpers work on words of 64 bits at width 64, and of 32 bits at the other widths
 abbrev pub helper_bits : Width → ℕ

@@ -6,14 +6,13 @@ use Rattle.dt_values.specs.Stored.{stored}
 use Rattle.dt_values.specs.Types.{is_text}
 use Rattle.dt_values.specs.declared.ctype.CType.{CType}
 use Rattle.dt_values.specs.declared.ctype.Member.{Member}
-use Rattle.dt_fields.specs.SetsByName.{set_at}
-use Rattle.dt_fields.specs.declared.set.SetDef.{SetDef}
+use Rattle.dt_values.specs.SetsByName.{set_at}
+use Rattle.dt_values.specs.declared.set.SetDef.{SetDef}
 use Rattle.c_exprs.specs.Exprs.{Term, Assignment}
 use Rattle.c_subset.specs.Programs.{Name, Stmt, on_mask, switch, extract, assign, call, Stmts, done, then, Cases}
 use Rattle.c_subset.specs.Programs.{no_case, or_case, Extraction, Program}
-use Rattle.dt_match.specs.Arguments.{type_in}
-use Rattle.dt_match.specs.FieldValues.{Answers}
-use Rattle.dt_match.specs.Hosts.{Call, Host}
+use Rattle.dt_values.specs.Members.{type_in}
+use Rattle.dt_host.specs.Hosts.{Answers, Call, Host}
 use Rattle.c_eval.specs.Meaning.{Place, helper_bits, value_at}
 
 -- how a run ended

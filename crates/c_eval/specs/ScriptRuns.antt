@@ -1,6 +1,6 @@
 -- Runs with a script as it lies in memory.
 use Rattle.std.specs.Prelude.{◌≡◌, ℕ}
-use Rattle.dt_match.specs.Scripts.{ScriptMemory, after_calls}
+use Rattle.dt_host.specs.Scripts.{ScriptMemory, after_calls}
 use Rattle.c_eval.specs.Runs.{Run}
 
 -- a run with this script is that with the plain one: its calls, its end, its tests, and the script that is left

@@ -1,6 +1,6 @@
 -- Where a run stands in memory, and what a statement makes of it.
 use Rattle.std.specs.Prelude.{◌≡◌, ℕ, ◌+◌, ◌-◌, ◌^◌, Bool, true, false, List, Option, Some, None, min, option_map}
-use Rattle.dt_fields.specs.declared.set.SetDef.{SetDef}
+use Rattle.dt_values.specs.declared.set.SetDef.{SetDef}
 use Rattle.c_subset.specs.Programs.{Program}
 use Rattle.c_eval.specs.LiveSet.{live_seen}
 use Rattle.c_eval.specs.Runs.{Standing, Turn, going, ended, Ended, ended_true, ended_false, stuck}

@@ -9,8 +9,7 @@ ghost use Rattle.c_subset.specs.View.{assignment_of, extraction_of, pattern_of, 
 
 use c_exprs::Expr;
 use c_subset::{Extract, Program};
-use dt_fields::SetDef;
-use dt_values::{Member, Name};
+use dt_values::{Member, Name, SetDef};
 
 /// A program, the sets that are declared outside of its text, and a word.
 #[derive(Clone, Copy)]

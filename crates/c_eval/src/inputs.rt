@@ -8,7 +8,7 @@ ghost use Rattle.c_subset.specs.View.{program_of};
 use crate::declared::Setting;
 use crate::expr::Inputs;
 use crate::live::Live;
-use dt_match::Host;
+use dt_host::Host;
 use dt_values::{Member, Name};
 
 /// In an extraction: the arguments of its set, without the set's name.

@@ -4,8 +4,8 @@ ghost use Rattle.std.specs.Prelude.{◌≡◌, true, false, [], ◌∷◌, pos, 
 ghost use Rattle.dt_values.specs.declared.width.Width.TheVariants.{W16, W32, W64};
 ghost use Rattle.c_subset.specs.Examples.{nop_program};
 ghost use Rattle.c_exprs.specs.Exprs.{constant, deposit, cast, function, applied};
-ghost use Rattle.c_subset.specs.Programs.{done, call, extract};
-ghost use Rattle.dt_match.specs.Examples.{imm, rd, shift_name, size_name};
+ghost use Rattle.c_subset.specs.Programs.{done, call, extract, or_load_case};
+ghost use Rattle.dt_host.specs.Examples.{imm, rd, shift_name, size_name};
 ghost use Rattle.c_eval.specs.ArgumentExamples.{both, imm_first, imm_last, names_set, rd_alone, to_unknown};
 ghost use Rattle.c_eval.specs.ArgumentExamples.{call_jr, call_lb, extract_load, jump, lb, load, unknown};
 ghost use Rattle.c_eval.specs.ArgumentExamples.{lb_call, no_call, one_call, stuck_run};
@@ -16,7 +16,6 @@ ghost use Rattle.c_eval.specs.Examples.{other_extraction, other_program, other_s
 ghost use Rattle.c_eval.specs.Examples.{run_with, scripted_run};
 ghost use Rattle.c_eval.specs.ExprExamples.{deposit_at, sign_above_four, value_on};
 ghost use Rattle.c_eval.specs.ExprExamples.{extract_bits, extract_low, no_bits, sextract_bits, sextract_low};
-ghost use Rattle.c_subset.specs.Programs.{or_load_case};
 ghost use Rattle.c_eval.specs.LoadExamples.{bytes_alone, eight_bytes, loaded_by, loads_none, one_case, two_bytes_then};
 ghost use Rattle.c_eval.specs.Loads.{load_of};
 ghost use Rattle.c_eval.specs.SwitchExamples.{calling, run_before_call, run_nested, run_switch, sticking, two_cases};

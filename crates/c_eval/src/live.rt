@@ -3,7 +3,7 @@
 ghost use Rattle.std.specs.Prelude.{◌≡◌, ◌≢◌, ◌≤◌, ◌<◌, ℕ, ℤ, List, AllPairs, IfSome, length, map, option_map, take};
 ghost use Rattle.c_eval.specs.LiveSet.{held_in, place_in};
 ghost use Rattle.c_eval.specs.Runs.{all_lost, all_values, put};
-ghost use Rattle.dt_match.specs.Arguments.{type_in};
+ghost use Rattle.dt_values.specs.Members.{type_in};
 ghost use Rattle.dt_values.specs.Stored.{stored};
 ghost use Rattle.dt_values.specs.declared.ctype.Member.{Member};
 

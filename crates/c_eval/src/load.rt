@@ -1,8 +1,7 @@
 //! What the load function of a program does.
 
 ghost use Rattle.std.specs.Prelude.{◌≡◌, ◌<◌, ◌≤◌, ◌-◌, ◌/◌, option_map, unwrap_or};
-ghost use Rattle.c_eval.specs.Loads.{after_block, after_case, after_load, can_load, load_of};
-ghost use Rattle.c_eval.specs.Loads.{with_byte, with_bytes};
+ghost use Rattle.c_eval.specs.Loads.{after_block, after_case, after_load, can_load, load_of, with_byte, with_bytes};
 ghost use Rattle.c_eval.specs.LoadView.{load_cases_of, loaded_seen};
 ghost use Rattle.c_subset.specs.View.{load_of as block_of, program_of};
 ghost use Rattle.dt_values.specs.Widths.{width_bits};
@@ -11,14 +10,14 @@ use c_subset::{LoadBlock, Program};
 use dt_values::{Width, deposit};
 
 /// The bytes at the place of an instruction, and how many of them are loaded.
-#[derive(Clone, Copy, PartialEq, Eq)]
+#[derive(Clone, Copy)]
 pub struct Bytes {
     pub items: [u8; 8],
     pub loaded: u8,
 }
 
 /// The word so far, and how many bytes are loaded.
-#[derive(Clone, Copy, PartialEq, Eq)]
+#[derive(Clone, Copy)]
 pub struct Loaded {
     pub word: u64,
     pub bytes: u8,

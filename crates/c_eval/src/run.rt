@@ -11,11 +11,11 @@ use crate::declared::Setting;
 use crate::steps::{assign, call, extract};
 use crate::turn::{Ended, Standing, Turn, tested};
 use c_subset::{Program, Stmt};
-use dt_fields::SetDef;
-use dt_match::Host;
+use dt_host::Host;
+use dt_values::SetDef;
 
 /// How a run ended, and how many tests it made.
-#[derive(Clone, Copy, PartialEq, Eq)]
+#[derive(Clone, Copy)]
 pub struct Ran {
     pub ended: Ended,
     pub tests: u64,

@@ -1,16 +1,16 @@
 //! Laws of runs: public functions that do nothing, whose contracts are the laws.
 
 ghost use Rattle.std.specs.Prelude.{◌≡◌, ◌≤◌, ℕ, List, [], length, map};
-ghost use Rattle.dt_fields.specs.declared.set.SetDef.{SetDef};
+ghost use Rattle.dt_values.specs.declared.set.SetDef.{SetDef};
 ghost use Rattle.c_subset.specs.Programs.{Program};
 ghost use Rattle.c_subset.specs.Sites.{call_sites, statements_in};
-ghost use Rattle.dt_match.specs.Hosts.{Host};
-ghost use Rattle.dt_match.specs.Scripts.{kept_call, memory_host, plain_script, up_to_end};
+ghost use Rattle.dt_host.specs.Hosts.{Host};
+ghost use Rattle.dt_host.specs.Scripts.{kept_call, memory_host, plain_script, up_to_end};
 ghost use Rattle.c_eval.specs.Runs.{run_of};
 ghost use Rattle.c_eval.specs.ScriptRuns.{IsPlainRun};
 
-use dt_match::Script;
-use dt_match::script::law_script;
+use dt_host::Script;
+use dt_host::script::law_script;
 
 /// A run with a script, of any program, is that with the plain script of its lists, whose state is the number of calls:
 /// the same calls, the same end and the same tests. A new script that has room for a call at each call site keeps every

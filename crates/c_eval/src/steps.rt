@@ -10,8 +10,8 @@ ghost use Rattle.c_eval.specs.Turns.{Stands, Turned};
 ghost use Rattle.c_exprs.specs.View.{term_of};
 ghost use Rattle.c_subset.specs.Programs.{Program, assign, call, extract};
 ghost use Rattle.c_subset.specs.View.{assignment_of, program_of};
-ghost use Rattle.dt_fields.specs.declared.set.SetDef.{SetDef};
-ghost use Rattle.dt_match.specs.Arguments.{type_in};
+ghost use Rattle.dt_values.specs.declared.set.SetDef.{SetDef};
+ghost use Rattle.dt_values.specs.Members.{type_in};
 
 use crate::declared::Setting;
 use crate::expr::{Inputs, evaluate};
@@ -19,7 +19,7 @@ use crate::inputs::{InDecoder, InExtraction};
 use crate::live::Live;
 use crate::turn::{Ended, Standing, Turn, after_call, live_turn};
 use c_exprs::Expr;
-use dt_match::Host;
+use dt_host::Host;
 use dt_values::{Member, Name, Values, Width};
 
 /// The extraction of this format, for this set.

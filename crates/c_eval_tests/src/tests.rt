@@ -9,9 +9,8 @@ use c_subset::{
     AssignList, Body, Extract, ExtractList, LoadBlock, NameList, PatternList, Program, SetList,
     Stmt,
 };
-use dt_fields::{MemberList, SetDef};
-use dt_match::{Answer, Script};
-use dt_values::{CType, Member, Name, Width};
+use dt_host::{Answer, Script};
+use dt_values::{CType, Member, MemberList, Name, SetDef, Width};
 use std::alloc::Global;
 use std::process::Abort;
 use std::test::Fail;

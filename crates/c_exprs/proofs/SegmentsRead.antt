@@ -1,7 +1,7 @@
 -- Segments are read exactly.
 use Rattle.std.proofs.Common.{◌≡◌, ℕ, ◌<◌, ◌^◌, List, [], ◌∷◌, ◌++◌, Bool, true, false, ◌==◌, Some, None, refl}
 use Rattle.std.proofs.Common.{ap, subst, ◌∙◌, arith, ◌⊎◌, inl, inr}
-use Rattle.std.specs.Prelude.{codes}
+use Rattle.std.specs.Prelude.{codes, decimal}
 use Rattle.std.proofs.lemmas.Bool.Decides.{nat_tests}
 use Rattle.dt_values.specs.Names.{IsName}
 use Rattle.dt_values.specs.declared.width.Width.{Width}
@@ -12,7 +12,6 @@ use Rattle.c_tokens.specs.Front.{number_at, name_at, name_behind_at}
 use Rattle.c_tokens.proofs.Exact.{Reads, Any, begins_again, behind_reads, closed_reads, both_reads, Made, made_reads}
 use Rattle.c_tokens.proofs.Exact.{choose_reads, known_reads, guarded_reads, found_reads, word_reads}
 use Rattle.c_tokens.proofs.WordsRead.{name_decodes, behind_decodes, number_decodes}
-use Rattle.std.specs.Prelude.{decimal}
 use Rattle.c_exprs.specs.Exprs.{Source, insn, argument, Term, constant, segment, deposit, cast, function, applied}
 use Rattle.c_exprs.specs.Spelling.{source_spelled, expr_spelled}
 use Rattle.c_exprs.specs.ExprParsing.{set_argument, argument_at, insn_word, source_at, sign_open, sign_at, begins_right}

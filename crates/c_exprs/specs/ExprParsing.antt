@@ -8,8 +8,7 @@ use Rattle.c_tokens.specs.Parsing.{Parse, begins, begins_second, is_constant, be
 use Rattle.c_tokens.specs.Parsing.{made, choose, guarded, word_as, turn, many, found}
 use Rattle.c_tokens.specs.WordParsing.{number_of}
 use Rattle.c_tokens.specs.Front.{name_at, name_behind_at, number_at}
-use Rattle.c_exprs.specs.Exprs.{Source, insn, argument, Term, constant, segment, deposit, cast}
-use Rattle.c_exprs.specs.Exprs.{Assignment}
+use Rattle.c_exprs.specs.Exprs.{Source, insn, argument, Term, constant, segment, deposit, cast, Assignment}
 use Rattle.c_exprs.specs.Spelling.{helper_digits, extract_word}
 use Rattle.c_exprs.specs.View.{applied_to}
 

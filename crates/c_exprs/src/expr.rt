@@ -3,7 +3,7 @@
 use dt_values::Name;
 
 /// Where bits come from.
-#[derive(Clone, Copy, PartialEq, Eq)]
+#[derive(Clone, Copy)]
 pub enum Input {
     /// The word, `insn`.
     Insn,

@@ -15,8 +15,8 @@ use Rattle.dt_fields.specs.SoundFields.{IsSoundField}
 use Rattle.dt_fields.specs.declared.field.FieldDef.{FieldDef}
 use Rattle.dt_fields.specs.declared.segment.Segment.{Segment}
 use Rattle.dt_fields.specs.declared.segment.Segment.TheVariants.{Bits, Named}
-use Rattle.dt_scope.specs.declared.value.FieldValue.{FieldValue}
-use Rattle.dt_scope.specs.declared.value.FieldValue.TheVariants.{Field, Constant}
+use Rattle.dt_model.specs.declared.value.FieldValue.{FieldValue}
+use Rattle.dt_model.specs.declared.value.FieldValue.TheVariants.{Field, Constant}
 use Rattle.c_exprs.specs.Exprs.{Term, cast}
 use Rattle.c_exprs.specs.Forms.{is_bits, is_function, SourceNamed, StandsIn, TermKeeps}
 use Rattle.dt_match.specs.FieldValues.{has_sign}

@@ -1,5 +1,3 @@
 pub mod Folding
 pub mod Forms
-pub mod Lines
 pub mod Signs
-pub mod WordEnds

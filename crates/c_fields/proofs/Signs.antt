@@ -1,7 +1,6 @@
 -- Signed numbers of some bits, as words of more bits.
 use Rattle.std.proofs.Common.{◌≡◌, ℕ, suc, ◌+◌, ◌-◌, ◌*◌, ◌%◌, ◌^◌, ◌<◌, ◌≤◌, Bool, true, false, cond, ℤ, pos, negsuc}
-use Rattle.std.proofs.Common.{◌-ℤ◌}
-use Rattle.std.proofs.Common.{refl, sym, ap, ◌∙◌, arith, pow_mono, mod-eq_of_lt, mul_assoc}
+use Rattle.std.proofs.Common.{◌-ℤ◌, refl, sym, ap, ◌∙◌, arith, pow_mono, mod-eq_of_lt, mul_assoc}
 use Rattle.std.proofs.lemmas.Int.{ints}
 use Rattle.std.proofs.lemmas.Bool.{le-leb, leb-true, leb-false, lt-leb}
 use Rattle.std.proofs.lemmas.Bool.Decides.{same_from_decides}

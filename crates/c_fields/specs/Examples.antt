@@ -9,7 +9,7 @@ use Rattle.dt_fields.specs.declared.segment.Segment.TheVariants.{Bits}
 use Rattle.c_exprs.specs.Exprs.{Term, insn, segment, deposit, cast}
 use Rattle.dt_match.specs.FieldValues.{field_value}
 use Rattle.c_eval.specs.Meaning.{value_at}
-use Rattle.c_fields.specs.ExprLayout.{assign_line}
+use Rattle.c_print.specs.ExprLayout.{assign_line}
 use Rattle.c_fields.specs.Written.{field_term}
 
 abbrev pub of_segments : List Segment → FieldDef

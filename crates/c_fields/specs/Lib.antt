@@ -1,4 +1,3 @@
 pub mod Written
 pub mod Values
-pub mod ExprLayout
 pub mod Examples

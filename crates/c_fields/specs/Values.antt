@@ -5,8 +5,8 @@ use Rattle.dt_fields.specs.SoundFields.{IsSoundField}
 use Rattle.dt_fields.specs.declared.field.FieldDef.{FieldDef}
 use Rattle.dt_fields.specs.declared.segment.Segment.{Segment}
 use Rattle.dt_fields.specs.declared.segment.TheConstants.{MOST_SEGMENTS}
-use Rattle.dt_scope.specs.declared.value.FieldValue.{FieldValue}
-use Rattle.dt_scope.specs.declared.value.FieldValue.TheVariants.{Field, Constant}
+use Rattle.dt_model.specs.declared.value.FieldValue.{FieldValue}
+use Rattle.dt_model.specs.declared.value.FieldValue.TheVariants.{Field, Constant}
 use Rattle.c_exprs.specs.Forms.{ConstantFits, SourceNamed}
 use Rattle.c_eval.specs.Meaning.{Place}
 use Rattle.c_fields.specs.Written.{source_of, Shows}

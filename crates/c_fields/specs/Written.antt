@@ -4,8 +4,8 @@ use Rattle.dt_fields.specs.Segments.{segment_length, total_length}
 use Rattle.dt_fields.specs.declared.field.FieldDef.{FieldDef}
 use Rattle.dt_fields.specs.declared.segment.Segment.{Segment}
 use Rattle.dt_fields.specs.declared.segment.Segment.TheVariants.{Bits, Named}
-use Rattle.dt_scope.specs.declared.value.FieldValue.{FieldValue}
-use Rattle.dt_scope.specs.declared.value.FieldValue.TheVariants.{Field, Constant}
+use Rattle.dt_model.specs.declared.value.FieldValue.{FieldValue}
+use Rattle.dt_model.specs.declared.value.FieldValue.TheVariants.{Field, Constant}
 use Rattle.c_exprs.specs.Exprs.{Source, insn, argument, Term, constant, segment, deposit, cast, function, applied}
 use Rattle.c_exprs.specs.Exprs.{Assignment}
 use Rattle.dt_match.specs.FieldValues.{has_sign}

@@ -3,13 +3,13 @@
 ghost use Rattle.std.specs.Prelude.{option_copied};
 ghost use Rattle.dt_text.specs.Puts.{Puts};
 ghost use Rattle.c_eval.specs.Meaning.{helper_bits};
-ghost use Rattle.c_fields.specs.ExprLayout.{assign_line, equals_text, indent_text, line_end};
+ghost use Rattle.c_print.specs.ExprLayout.{assign_line, equals_text, indent_text, line_end};
 ghost use Rattle.c_fields.specs.Values.{HasRoom};
 ghost use Rattle.c_fields.specs.Written.{value_term};
 
 use crate::expression::write_value;
 use crate::parts::write_argument;
-use dt_forms::FieldValue;
+use dt_model::FieldValue;
 use dt_text::{Out, Part, write_parts};
 use dt_values::{Name, Width};
 

@@ -4,7 +4,7 @@ ghost use Rattle.std.specs.Prelude.{◌≡◌, option_copied};
 ghost use Rattle.dt_text.specs.Puts.{Puts};
 ghost use Rattle.dt_match.specs.FieldValues.{has_sign};
 ghost use Rattle.c_eval.specs.Meaning.{helper_bits};
-ghost use Rattle.c_fields.specs.ExprLayout.{expr_text, source_text};
+ghost use Rattle.c_print.specs.ExprLayout.{expr_text, source_text};
 ghost use Rattle.c_fields.specs.Values.{HasRoom, HaveRoom};
 ghost use Rattle.c_fields.specs.Written.{field_term, folded, joined_term, place_of, segment_term, several_term};
 ghost use Rattle.c_fields.specs.Written.{source_of, value_term};
@@ -15,7 +15,7 @@ use crate::parts::{
 };
 use dt_fields::segment::{segment_length, total_length};
 use dt_fields::{FieldDef, Segment};
-use dt_forms::FieldValue;
+use dt_model::FieldValue;
 use dt_text::{Out, Part, write_parts};
 use dt_values::{Name, Width};
 

@@ -5,16 +5,12 @@ ghost use Rattle.dt_values.specs.Widths.{width_bits};
 ghost use Rattle.dt_values.specs.declared.width.Width.{Width};
 ghost use Rattle.dt_fields.specs.SoundFields.{IsSoundField};
 ghost use Rattle.dt_fields.specs.declared.field.FieldDef.{FieldDef};
-ghost use Rattle.dt_scope.specs.declared.value.FieldValue.{FieldValue};
-ghost use Rattle.c_exprs.specs.Forms.{ArgumentNamed, HasNames, StandsIn, TermKeeps};
-ghost use Rattle.c_exprs.specs.Spelling.{assign_spelled};
-ghost use Rattle.c_exprs.specs.Exprs.{Term};
-ghost use Rattle.c_tokens.specs.Tokens.{tokens_of};
+ghost use Rattle.dt_model.specs.declared.value.FieldValue.{FieldValue};
+ghost use Rattle.c_exprs.specs.Forms.{StandsIn, TermKeeps};
 ghost use Rattle.dt_match.specs.Arguments.{value_of};
 ghost use Rattle.dt_match.specs.FieldValues.{field_value};
 ghost use Rattle.c_eval.specs.Meaning.{Place, helper_bits, value_at};
 ghost use Rattle.c_fields.specs.Examples.{LineExamples, TermExamples, ValueExamples};
-ghost use Rattle.c_fields.specs.ExprLayout.{assign_line};
 ghost use Rattle.c_fields.specs.Values.{AreNamed, HasRoom, KeepsValueRules, IsValueNamed, ShowsValue};
 ghost use Rattle.c_fields.specs.Written.{Shows, field_term, value_term};
 
@@ -48,13 +44,6 @@ pub fn law_expression_keeps_rules()
 pub fn law_sound_value_has_room()
     ensures { (w : Width) (value : FieldValue) → KeepsValueRules (width_bits w) value
         → HasRoom (helper_bits w) value }
-{}
-
-/// The line of an assignment has the tokens that spell it.
-pub fn law_assignment_is_spelled()
-    ensures { (w : Width) (level : ℕ) (set : Option (List ℕ)) (argument : List ℕ) (e : Term) → HasNames e
-        → ArgumentNamed set argument
-        → tokens_of (assign_line w level set argument e) ≡ Some (assign_spelled w set argument e) }
 {}
 
 /// Fields with their expressions, their values and their lines.

@@ -3,8 +3,8 @@
 ghost use Rattle.std.specs.Prelude.{◌≡◌, codes, option_copied};
 ghost use Rattle.dt_text.specs.Puts.{Puts};
 ghost use Rattle.c_exprs.specs.Spelling.{extract_word, helper_digits};
-ghost use Rattle.c_fields.specs.ExprLayout.{applied_text, argument_text, cast_text, close_text, constant_text};
-ghost use Rattle.c_fields.specs.ExprLayout.{function_text, helper_text, last_text, middle_text};
+ghost use Rattle.c_print.specs.ExprLayout.{applied_text, argument_text, cast_text, close_text, constant_text};
+ghost use Rattle.c_print.specs.ExprLayout.{function_text, helper_text, last_text, middle_text};
 
 use dt_text::{Out, Part, write_parts};
 use dt_values::{Name, Width};

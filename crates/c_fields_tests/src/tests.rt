@@ -7,7 +7,7 @@ ghost use Rattle.c_fields.specs.Values.{HasRoom, HaveRoom};
 use c_fields::write_assignment;
 use dt_fields::segment::{MOST_SEGMENTS, total_length};
 use dt_fields::{FieldDef, Segment, Segments};
-use dt_forms::FieldValue;
+use dt_model::FieldValue;
 use dt_text::GrowingSink;
 use dt_values::{Name, Width};
 use std::alloc::Global;

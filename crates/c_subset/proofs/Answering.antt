@@ -7,13 +7,11 @@ use Rattle.c_tokens.specs.Gives.{Fails}
 use Rattle.c_tokens.specs.Tokens.{Token, tokens_of}
 use Rattle.c_tokens.specs.declared.fault.ReadFault.{ReadFault}
 use Rattle.c_tokens.specs.declared.fault.ReadFault.TheVariants as read
-use Rattle.c_subset.specs.Distinct.{HasDistinctNames}
 use Rattle.c_subset.specs.ProgramParsing.{program_at, read_whole}
 use Rattle.c_subset.specs.Programs.{Program}
 use Rattle.c_subset.specs.ReadAnswers.{IsDistinct, IsRead}
 use Rattle.c_subset.specs.ReadFaults.{fault_of}
 use Rattle.c_subset.specs.Spells.{Spells}
-use Rattle.c_subset.specs.View.{program_of}
 use Rattle.c_subset.specs.declared.fault.CFault.{CFault}
 use Rattle.c_subset.specs.declared.fault.CFault.TheVariants as faults
 use Rattle.c_subset.specs.declared.program.Program.{Program as Made}

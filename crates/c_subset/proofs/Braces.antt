@@ -4,7 +4,7 @@ use Rattle.std.proofs.Common.{None, refl, ap, ◌∙◌, arith}
 use Rattle.std.specs.Prelude.{flat_map, codes, decimal}
 use Rattle.dt_values.specs.declared.width.Width.{Width}
 use Rattle.dt_values.specs.declared.ctype.Member.{Member}
-use Rattle.dt_fields.specs.declared.set.SetDef.{SetDef}
+use Rattle.dt_values.specs.declared.set.SetDef.{SetDef}
 use Rattle.c_exprs.specs.Exprs.{Source, insn, argument, Term, constant, segment, deposit, cast, function, applied}
 use Rattle.c_exprs.specs.Spelling.{argument_spelled, source_spelled, constant_spelled, expr_spelled, assign_spelled}
 use Rattle.c_exprs.specs.Spelling.{assignment_spelled}

@@ -5,7 +5,6 @@ use Rattle.std.specs.Prelude.{flat_map, IsSome, IfSome}
 use Rattle.std.specs.List.{All}
 use Rattle.dt_values.specs.Names.{IsName}
 use Rattle.dt_values.specs.declared.width.Width.{Width}
-use Rattle.dt_fields.specs.declared.set.SetDef.{SetDef}
 use Rattle.c_tokens.specs.Tokens.{Token}
 use Rattle.c_tokens.specs.Parsing.{after, begins}
 use Rattle.c_tokens.proofs.Exact.{Reads, Any, Stops, both_reads, Made, made_reads, known_reads}
@@ -13,13 +12,13 @@ use Rattle.c_subset.specs.ExtractParsing.{Head}
 use Rattle.c_subset.specs.Programs.{Name, Prefix, Pattern, Extraction, Program}
 use Rattle.c_subset.specs.Programs.{set_spelled, prefix_of, pattern_spelled, extract_spelled, union_spelled}
 use Rattle.c_subset.specs.Programs.{decoder_head_spelled, stmts_spelled, decoder_end_spelled, load_function_spelled}
-use Rattle.c_subset.specs.Programs.{decoder_spelled, spelling}
+use Rattle.c_subset.specs.Programs.{spelling}
 use Rattle.c_subset.specs.Keeps.{PatternNamed, ExtractionKeeps}
 use Rattle.c_subset.specs.SetParsing.{starts_set}
 use Rattle.c_subset.specs.PatternParsing.{starts_pattern}
 use Rattle.c_subset.specs.DeclarationParsing.{Declared, Parts, declared_of, declared_at}
 use Rattle.c_subset.proofs.SetsRead.{SetNamed, sets_reads}
-use Rattle.c_subset.proofs.PatternsRead.{Patterns, PatternsKeep, patterns_spelled, patterns_reads}
+use Rattle.c_subset.proofs.PatternsRead.{PatternsKeep, patterns_spelled, patterns_reads}
 use Rattle.c_subset.proofs.ExtractsRead.{Extracts, ExtractsKeep, extracts_spelled, extracts_reads}
 
 -- the rules of what is declared that its own text decides

@@ -9,7 +9,7 @@ use Rattle.dt_values.specs.Widths.{width_bits}
 use Rattle.dt_values.specs.declared.ctype.Member.{Member}
 use Rattle.dt_values.specs.declared.width.Width.{Width}
 use Rattle.dt_values.specs.declared.width.Width.TheVariants.{W32}
-use Rattle.dt_fields.specs.declared.set.SetDef.{SetDef}
+use Rattle.dt_values.specs.declared.set.SetDef.{SetDef}
 use Rattle.c_exprs.specs.Exprs.{segment, argument}
 use Rattle.c_exprs.specs.Forms.{AssignmentKeeps}
 use Rattle.c_subset.specs.Programs.{Name, Stmts, done, Extraction, Program}

@@ -6,7 +6,6 @@ use Rattle.std.specs.Prelude.{codes, flat_map, nat_eq}
 use Rattle.std.specs.List.{All, AllByRecursion}
 use Rattle.std.specs.Cmp.Lexicographic.{pointwise}
 use Rattle.dt_values.specs.Names.{IsName}
-use Rattle.dt_values.specs.Widths.{width_bits}
 use Rattle.dt_values.specs.declared.width.Width.{Width}
 use Rattle.dt_values.specs.declared.width.Width.TheVariants.{W16, W32, W64}
 use Rattle.c_tokens.specs.Tokens.{Token, word, mark, double_equals, arrow}

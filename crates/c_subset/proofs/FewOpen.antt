@@ -4,7 +4,7 @@ use Rattle.std.proofs.Common.{ℤ, pos, negsuc, Option, Some, None, not, ◌&&�
 use Rattle.std.proofs.Common.{cond, length-append}
 use Rattle.std.specs.Prelude.{flat_map, codes, decimal, IfSome, IsTrue}
 use Rattle.dt_values.specs.declared.width.Width.{Width}
-use Rattle.dt_fields.specs.declared.set.SetDef.{SetDef}
+use Rattle.dt_values.specs.declared.set.SetDef.{SetDef}
 use Rattle.c_exprs.specs.Exprs.{Source, insn, argument, Term, constant, segment, deposit, cast, function, applied}
 use Rattle.c_exprs.specs.Spelling.{helper_digits, extract_word, argument_spelled, source_spelled, constant_spelled}
 use Rattle.c_exprs.specs.Spelling.{expr_spelled, assign_spelled, assignment_spelled}

@@ -12,8 +12,8 @@ use Rattle.std.proofs.lemmas.List.Elements.{All-nil, All-cons, All-head, All-tai
 use Rattle.std.proofs.lemmas.Slice.Eq.{slice_eq-Decides}
 use Rattle.std.proofs.lemmas.Map.Made.{AllPairs-from_IsDistinct, IsDistinct-from_AllPairs, IsDistinct-from_count}
 use Rattle.std.proofs.lemmas.Map.Made.{distinct_count-from_IsDistinct}
-use Rattle.dt_fields.specs.declared.set.SetDef.{SetDef}
-use Rattle.dt_fields.specs.declared.set.TheConstants.{MOST_ARGUMENTS}
+use Rattle.dt_values.specs.declared.set.SetDef.{SetDef}
+use Rattle.dt_values.specs.declared.set.TheConstants.{MOST_ARGUMENTS}
 use Rattle.c_tokens.specs.Before.{tokens_before}
 use Rattle.c_tokens.specs.Depth.{most_open, open_after, open_behind, IsDeep, IsTooDeep}
 use Rattle.c_tokens.specs.Tokens.{Token, tokens_of}

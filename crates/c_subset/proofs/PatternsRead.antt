@@ -19,7 +19,6 @@ use Rattle.c_tokens.proofs.Exact.{bind_some}
 use Rattle.c_tokens.proofs.WordsRead.{name_decodes}
 use Rattle.c_subset.specs.Programs.{Name, Pattern, Prefix, prefix_of, static_spelled, prototype_spelled, pattern_spelled}
 use Rattle.c_subset.specs.Keeps.{PatternNamed}
-use Rattle.c_subset.specs.SetParsing.{same_names}
 use Rattle.c_subset.specs.PatternParsing.{static_word, static_at, bool_word, context_run, typedef_word, typedef_of, typedef_at}
 use Rattle.c_subset.specs.PatternParsing.{prototype_close, parameters_at, Prototype, is_prototype_of, prototype_prefix}
 use Rattle.c_subset.specs.PatternParsing.{prototype_at, prefixed_at, same_prefix, has_prefix, only_pattern, pattern_at}

@@ -7,25 +7,22 @@ use Rattle.std.proofs.lemmas.List.Elements.{All-nil, All-cons, All-head, All-tai
 use Rattle.dt_values.specs.Names.{IsName}
 use Rattle.dt_values.specs.Widths.{width_bits}
 use Rattle.dt_values.specs.declared.width.Width.{Width}
-use Rattle.dt_fields.specs.declared.set.SetDef.{SetDef}
+use Rattle.dt_values.specs.declared.set.SetDef.{SetDef}
 use Rattle.c_tokens.specs.Tokens.{Token, tokens_of}
 use Rattle.c_tokens.specs.Before.{tokens_before}
 use Rattle.c_tokens.specs.Depth.{IsTooDeep}
-use Rattle.c_tokens.specs.Parsing.{is_nothing, both, closed}
-use Rattle.c_tokens.proofs.Exact.{Reads, Any, Made, both_reads, closed_reads, then_each_reads, made_reads, known_reads}
-use Rattle.c_tokens.proofs.Exact.{bind_some, guard_some, some_is, weaken_reads}
+use Rattle.c_tokens.specs.Parsing.{is_nothing}
+use Rattle.c_tokens.proofs.Exact.{Reads, Made, both_reads, closed_reads, then_each_reads, made_reads, known_reads}
+use Rattle.c_tokens.proofs.Exact.{bind_some, guard_some, some_is}
 use Rattle.c_tokens.proofs.Whole.{all_before}
 use Rattle.c_subset.specs.Programs.{Name, Stmts, Pattern, Prefix, Program, LoadBlock, prefix_of, decoder_end_spelled}
-use Rattle.c_subset.specs.Programs.{stmts_spelled, union_spelled, load_function_spelled, spelling}
-use Rattle.c_subset.specs.Keeps.{SetKeeps, StmtsKeep, StmtsHaveCases, StmtsBelow, HaveNoCall, LoadFits, LoadBelow}
+use Rattle.c_subset.specs.Programs.{stmts_spelled, load_function_spelled, spelling}
+use Rattle.c_subset.specs.Keeps.{SetKeeps, LoadFits, LoadBelow}
 use Rattle.c_subset.specs.Keeps.{LoadHasCases, KeepsRules}
 use Rattle.c_subset.specs.Nesting.{StmtsWithin, LoadWithin}
 use Rattle.c_subset.specs.Distinct.{HasDistinctArguments, HasDistinctNames}
 use Rattle.c_subset.specs.Spells.{Spells, SpellsNone}
 use Rattle.c_subset.specs.DeclarationParsing.{Declared}
-use Rattle.c_subset.specs.SetParsing.{union_at}
-use Rattle.c_subset.specs.StmtParsing.{Scope, stmts_at}
-use Rattle.c_subset.specs.LoadParsing.{load_function_at}
 use Rattle.c_subset.specs.ProgramParsing.{all_taken, read_whole, is_some_pattern, scope_for, Defined, body_at, defined_at}
 use Rattle.c_subset.specs.ProgramParsing.{program_from, program_at}
 use Rattle.c_subset.proofs.DeclarationsRead.{DeclaredKeeps, declared_spelled, declared_reads, declared_in, body_spelled}

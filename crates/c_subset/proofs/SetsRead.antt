@@ -8,7 +8,7 @@ use Rattle.dt_values.specs.Types.{is_text, type_of, type_name}
 use Rattle.dt_values.specs.declared.ctype.CType.{CType}
 use Rattle.dt_values.specs.declared.ctype.CType.TheVariants.{Int, I8, I16, I32, I64, U8, U16, U32, U64, Other}
 use Rattle.dt_values.specs.declared.ctype.Member.{Member}
-use Rattle.dt_fields.specs.declared.set.SetDef.{SetDef}
+use Rattle.dt_values.specs.declared.set.SetDef.{SetDef}
 use Rattle.c_tokens.specs.Tokens.{Token, word}
 use Rattle.c_tokens.specs.Marks.{close_brace, semicolon, arg_, f_}
 use Rattle.c_tokens.specs.Parsing.{after, begins}

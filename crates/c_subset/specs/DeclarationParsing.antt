@@ -1,7 +1,7 @@
 -- The reader of all that stands before the decoder's body (the C subset, docs/C_SUBSET.md).
 use Rattle.std.specs.Prelude.{List, Bool, Option}
 use Rattle.dt_values.specs.declared.width.Width.{Width}
-use Rattle.dt_fields.specs.declared.set.SetDef.{SetDef}
+use Rattle.dt_values.specs.declared.set.SetDef.{SetDef}
 use Rattle.c_tokens.specs.Parsing.{Parse, both, made}
 use Rattle.c_subset.specs.Programs.{Name, Prefix, Pattern, Extraction}
 use Rattle.c_subset.specs.SetParsing.{sets_at}

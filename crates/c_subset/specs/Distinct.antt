@@ -1,8 +1,8 @@
 -- The rules of `KeepsRules` on names that differ (the C subset, docs/C_SUBSET.md).
 use Rattle.std.specs.Prelude.{◌≤◌, map, length}
 use Rattle.std.specs.List.{All}
-use Rattle.dt_fields.specs.declared.set.SetDef.{SetDef}
-use Rattle.dt_fields.specs.declared.set.TheConstants.{MOST_ARGUMENTS}
+use Rattle.dt_values.specs.declared.set.SetDef.{SetDef}
+use Rattle.dt_values.specs.declared.set.TheConstants.{MOST_ARGUMENTS}
 use Rattle.c_subset.specs.Keeps.{AllDiffer}
 use Rattle.c_subset.specs.Programs.{Program}
 

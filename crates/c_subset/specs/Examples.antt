@@ -2,7 +2,6 @@
 use Rattle.std.specs.Prelude.{◌≡◌, ℕ, true, false, List, [], ◌∷◌, ◌++◌, codes, negsuc, Some, None}
 use Rattle.dt_values.specs.declared.width.Width.TheVariants.{W32, W64}
 use Rattle.dt_values.specs.declared.ctype.CType.TheVariants.{Int, U64}
-use Rattle.c_tokens.specs.Tokens.{word, mark, double_equals, arrow, tokens_of}
 use Rattle.c_exprs.specs.Exprs.{Source, insn, argument, Term, constant, segment, deposit, cast, function, applied}
 use Rattle.c_exprs.specs.Exprs.{Assignment}
 use Rattle.c_subset.specs.Programs.{Name, Stmts, on_mask, extract, assign, call, done, then, Program}

@@ -7,8 +7,8 @@ use Rattle.dt_values.specs.Widths.{width_bits}
 use Rattle.dt_values.specs.Types.{type_of}
 use Rattle.dt_values.specs.declared.ctype.CType.{CType}
 use Rattle.dt_values.specs.declared.ctype.CType.TheVariants.{Other}
-use Rattle.dt_fields.specs.declared.set.SetDef.{SetDef}
-use Rattle.dt_fields.specs.declared.set.TheConstants.{MOST_ARGUMENTS}
+use Rattle.dt_values.specs.declared.set.SetDef.{SetDef}
+use Rattle.dt_values.specs.declared.set.TheConstants.{MOST_ARGUMENTS}
 use Rattle.c_exprs.specs.Forms.{AssignmentKeeps, StandsIn, TermKeeps}
 use Rattle.c_subset.specs.Programs.{Name, Stmt, on_mask, switch, extract, assign, call, Stmts, done, then}
 use Rattle.c_subset.specs.Programs.{Cases, no_case, or_case, Pattern, Extraction, Program, LoadBlock, load_block}

@@ -4,7 +4,7 @@ use Rattle.dt_values.specs.declared.width.Width.{Width}
 use Rattle.dt_values.specs.declared.width.Width.TheVariants.{W16, W32, W64}
 use Rattle.dt_values.specs.Types.{type_name}
 use Rattle.dt_values.specs.declared.ctype.Member.{Member}
-use Rattle.dt_fields.specs.declared.set.SetDef.{SetDef}
+use Rattle.dt_values.specs.declared.set.SetDef.{SetDef}
 use Rattle.c_exprs.specs.Exprs.{Assignment, Term}
 use Rattle.c_exprs.specs.Spelling.{assign_spelled, assignment_spelled}
 use Rattle.c_tokens.specs.Marks.{open_round, close_round, open_brace, close_brace, semicolon, comma, asterisk}

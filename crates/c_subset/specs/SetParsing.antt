@@ -3,7 +3,7 @@ use Rattle.std.specs.Prelude.{ℕ, nat_eq, not, Bool, true, false, List, [], ◌
 use Rattle.std.specs.Cmp.Lexicographic.{pointwise}
 use Rattle.dt_values.specs.Types.{type_of}
 use Rattle.dt_values.specs.declared.ctype.Member.{Member}
-use Rattle.dt_fields.specs.declared.set.SetDef.{SetDef}
+use Rattle.dt_values.specs.declared.set.SetDef.{SetDef}
 use Rattle.c_tokens.specs.Tokens.{Token, word}
 use Rattle.c_tokens.specs.Marks.{open_brace, close_brace, semicolon}
 use Rattle.c_tokens.specs.Parsing.{Parse, begins, behind, closed, both, made, guarded, many, found}

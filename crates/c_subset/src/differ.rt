@@ -7,8 +7,7 @@ ghost use Rattle.c_subset.specs.Keeps.{AllDiffer};
 ghost use Rattle.c_subset.specs.View.{program_of};
 
 use crate::program::{Extract, Program};
-use dt_fields::{MOST_ARGUMENTS, SetDef};
-use dt_values::{Member, Name};
+use dt_values::{MOST_ARGUMENTS, Member, Name, SetDef};
 use std::alloc::{AllocError, Global};
 use std::collections::HashSet;
 
@@ -21,13 +20,13 @@ pub fn has_distinct_names(alloc: Global, program: &Program) -> Result<bool, Allo
     if !all_distinct(alloc, program.sets.items())? {
         return Ok(false);
     }
-    if !all_differ(alloc, &set_names(alloc, program.sets.items())?)? {
+    if !sets_differ(alloc, program.sets.items())? {
         return Ok(false);
     }
-    if !all_differ(alloc, &pattern_names(alloc, program.patterns.items())?)? {
+    if !patterns_differ(alloc, program.patterns.items())? {
         return Ok(false);
     }
-    if !all_differ(alloc, &format_names(alloc, program.extracts.items())?)? {
+    if !formats_differ(alloc, program.extracts.items())? {
         return Ok(false);
     }
     all_differ(alloc, program.union_sets.items())
@@ -52,6 +51,24 @@ fn has_distinct_arguments(alloc: Global, set: &SetDef) -> Result<bool, AllocErro
         return Ok(false);
     }
     all_differ(alloc, &argument_names(alloc, set.members.items())?)
+}
+
+fn sets_differ(alloc: Global, sets: &[SetDef]) -> Result<bool, AllocError>
+    ensures { IfOk result (λ differ. IsTrue differ ↔ AllDiffer (map (λ s. s.name) sets.now)) }
+{
+    all_differ(alloc, &set_names(alloc, sets)?)
+}
+
+fn patterns_differ(alloc: Global, patterns: &[(Name, Name)]) -> Result<bool, AllocError>
+    ensures { IfOk result (λ differ. IsTrue differ ↔ AllDiffer (map (λ p. p.0) patterns.now)) }
+{
+    all_differ(alloc, &pattern_names(alloc, patterns)?)
+}
+
+fn formats_differ(alloc: Global, extracts: &[Extract]) -> Result<bool, AllocError>
+    ensures { IfOk result (λ differ. IsTrue differ ↔ AllDiffer (map (λ e. e.format) extracts.now)) }
+{
+    all_differ(alloc, &format_names(alloc, extracts)?)
 }
 
 fn argument_names(alloc: Global, members: &[Member]) -> Result<Vec<Name>, AllocError>

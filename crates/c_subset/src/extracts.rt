@@ -7,18 +7,7 @@ ghost use Rattle.c_exprs.specs.ExprParsing.{assignment_at};
 ghost use Rattle.c_subset.specs.View.{assignment_of, extraction_of};
 ghost use Rattle.c_subset.specs.SetParsing.{is_inside};
 ghost use Rattle.c_subset.specs.DeclarationViews.{function_seen, head_seen};
-ghost use Rattle.c_subset.specs.ExtractParsing.{
-  width_of,
-  width_at,
-  function_head_at,
-  assigns_at,
-  function_at,
-  starts_function,
-  head_at,
-  extraction_under,
-  extractions_under,
-  extracts_at,
-};
+ghost use Rattle.c_subset.specs.ExtractParsing.{width_of, width_at, function_head_at, assigns_at, function_at, starts_function, head_at, extraction_under, extractions_under, extracts_at};
 
 use crate::joined::name_behind_both;
 use crate::patterns::{static_at, take_context};

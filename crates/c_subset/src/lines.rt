@@ -4,17 +4,7 @@ ghost use Rattle.std.specs.Prelude.{◌≡◌, option_map};
 ghost use Rattle.c_tokens.specs.Gives.{Gives};
 ghost use Rattle.c_tokens.specs.Parsing.{after, begins};
 ghost use Rattle.c_subset.specs.View.{stmt_of};
-ghost use Rattle.c_subset.specs.StmtParsing.{
-  live_open,
-  call_end,
-  live_set_at,
-  extract_at,
-  prefixed_call_at,
-  call_at,
-  assign_at,
-  if_open,
-  if_head_at,
-};
+ghost use Rattle.c_subset.specs.StmtParsing.{live_open, call_end, live_set_at, extract_at, prefixed_call_at, call_at, assign_at, if_open, if_head_at};
 
 use crate::joined::name_behind_both_at;
 use crate::program::Stmt;

@@ -7,22 +7,7 @@ ghost use Rattle.c_subset.specs.Programs.{word_type, return_insn_spelled};
 ghost use Rattle.c_subset.specs.View.{load_of};
 ghost use Rattle.c_subset.specs.ReadView.{load_case_of, load_switch_of, maybe_switch_of};
 ghost use Rattle.c_subset.specs.StmtParsing.{starts_case, has_item};
-ghost use Rattle.c_subset.specs.LoadParsing.{
-  bytes_open,
-  bytes_at,
-  maybe_bytes_at,
-  load_case_at,
-  load_switch_at,
-  maybe_switch_at,
-  load_block_at,
-  load_inner_at,
-  load_at,
-  load_type,
-  load_open,
-  insn_zero,
-  some_load_at,
-  load_function_at,
-};
+ghost use Rattle.c_subset.specs.LoadParsing.{bytes_open, bytes_at, maybe_bytes_at, load_case_at, load_switch_at, maybe_switch_at, load_block_at, load_inner_at, load_at, load_type, load_open, insn_zero, some_load_at, load_function_at};
 
 use crate::joined::take_joined;
 use crate::load::LoadBlock;

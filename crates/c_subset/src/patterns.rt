@@ -5,20 +5,7 @@ ghost use Rattle.c_tokens.specs.Gives.{Gives};
 ghost use Rattle.c_tokens.specs.Parsing.{after, made, many};
 ghost use Rattle.c_tokens.specs.WordParsing.{strip_end, name_before};
 ghost use Rattle.c_subset.specs.View.{pattern_of, prefix_seen};
-ghost use Rattle.c_subset.specs.PatternParsing.{
-  static_at,
-  context_run,
-  typedef_at,
-  parameters_at,
-  prototype_at,
-  prefixed_at,
-  same_prefix,
-  pattern_at,
-  starts_pattern,
-  put_first,
-  some_patterns_at,
-  patterns_at,
-};
+ghost use Rattle.c_subset.specs.PatternParsing.{static_at, context_run, typedef_at, parameters_at, prototype_at, prefixed_at, same_prefix, pattern_at, starts_pattern, put_first, some_patterns_at, patterns_at};
 
 use crate::sets::arg_at;
 use c_tokens::{ReadFault, Token, Tokens};

@@ -2,8 +2,7 @@
 
 use crate::load::LoadBlock;
 use c_exprs::Expr;
-use dt_fields::SetDef;
-use dt_values::{Items, Name, Width};
+use dt_values::{Items, Name, SetDef, Width};
 
 /// Argument sets in order.
 pub type SetList = Items<SetDef>;

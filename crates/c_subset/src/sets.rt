@@ -1,22 +1,12 @@
 //! Reads argument sets, and the sets of the decoder's union.
 
-ghost use Rattle.std.specs.Prelude.{◌≡◌, option_map};
+ghost use Rattle.std.specs.Prelude.{true, ◌≡◌, option_map};
 ghost use Rattle.c_tokens.specs.Gives.{Gives};
 ghost use Rattle.c_tokens.specs.Parsing.{many};
-ghost use Rattle.c_subset.specs.SetParsing.{
-  arg_at,
-  is_inside,
-  member_at,
-  set_at,
-  starts_set,
-  sets_at,
-  union_set_at,
-  union_at,
-};
+ghost use Rattle.c_subset.specs.SetParsing.{arg_at, is_inside, member_at, set_at, starts_set, sets_at, union_set_at, union_at};
 
 use c_tokens::{ReadFault, Token, Tokens, name_at, name_behind_at};
-use dt_fields::{MemberList, SetDef};
-use dt_values::{CType, Member, Name};
+use dt_values::{CType, Member, MemberList, Name, SetDef};
 use std::alloc::Global;
 
 /// The name S of the word `arg_S` that stands first.
@@ -144,15 +134,23 @@ pub(crate) fn union_at(
 ) -> Result<Vec<Name>, ReadFault>
     ensures { Gives (λ ss. (ss.items, tokens.new)) result (union_at has_patterns tokens.old) }
 {
-    if !has_patterns {
-        return Ok(Vec::new(alloc));
+    if has_patterns {
+        some_union_at(alloc, tokens)
+    } else {
+        Ok(Vec::new(alloc))
     }
+}
+
+#[tactic(auto, unfolding(crate::specs::SetParsing::union_at))]
+fn some_union_at(alloc: Global, tokens: &mut Tokens) -> Result<Vec<Name>, ReadFault>
+    ensures { Gives (λ ss. (ss.items, tokens.new)) result (union_at true tokens.old) }
+{
     tokens
         .take(&[Token::Word(b"union"), Token::Mark(b'{')])
         .ok_or(ReadFault::NotSubset)?;
     let sets = union_sets_at(alloc, tokens)?;
-    tokens
-        .take(&[Token::Mark(b'}'), Token::Word(b"u"), Token::Mark(b';')])
-        .ok_or(ReadFault::NotSubset)?;
-    Ok(sets)
+    match tokens.take(&[Token::Mark(b'}'), Token::Word(b"u"), Token::Mark(b';')]) {
+        None => Err(ReadFault::NotSubset),
+        Some(()) => Ok(sets),
+    }
 }

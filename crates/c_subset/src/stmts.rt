@@ -6,18 +6,7 @@ ghost use Rattle.c_tokens.specs.Parsing.{many};
 ghost use Rattle.c_subset.specs.Programs.{switch};
 ghost use Rattle.c_subset.specs.View.{stmt_of, stmts_of, case_of, cases_of};
 ghost use Rattle.c_subset.specs.ReadView.{scope_of};
-ghost use Rattle.c_subset.specs.StmtParsing.{
-  if_at,
-  case_at,
-  starts_case,
-  has_item,
-  switch_at,
-  stmt_at,
-  starts_stmt,
-  block_at,
-  inner_at,
-  stmts_at,
-};
+ghost use Rattle.c_subset.specs.StmtParsing.{if_at, case_at, starts_case, has_item, switch_at, stmt_at, starts_stmt, block_at, inner_at, stmts_at};
 
 use crate::lines::{assign_at, begins_if, call_at, extract_at, if_head_at};
 use crate::program::Stmt;

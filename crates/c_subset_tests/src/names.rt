@@ -2,8 +2,7 @@
 
 use c_subset::differ::has_distinct_names;
 use c_subset::{AssignList, Body, Extract, ExtractList, NameList, PatternList, Program, SetList};
-use dt_fields::{MOST_ARGUMENTS, MemberList, SetDef};
-use dt_values::{CType, Member, Name, Width};
+use dt_values::{CType, MOST_ARGUMENTS, Member, MemberList, Name, SetDef, Width};
 use std::process::Abort;
 
 /// The names of a program's parts. The first set has the arguments.

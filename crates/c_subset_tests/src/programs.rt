@@ -6,8 +6,7 @@ use c_subset::{
     AssignList, Body, Expr, Extract, ExtractList, Input, NameList, PatternList, Program, SetList,
     Stmt, read_c,
 };
-use dt_fields::{MemberList, SetDef};
-use dt_values::{CType, Member, Name, Width};
+use dt_values::{CType, Member, MemberList, Name, SetDef, Width};
 use std::process::Abort;
 
 /// All parts of a program.

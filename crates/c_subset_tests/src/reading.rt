@@ -40,12 +40,20 @@ fn check(rt: &(impl Abort + AllocGlobal), table: &[(&str, Answer)]) {
     }
 }
 
-// The whole program's text with a part of it in the place of another, which stands in it.
+// The answer to the whole program's text with a part of it in the place of another.
+fn answered_replaced(rt: &(impl Abort + AllocGlobal), old: &str, new: &str) -> Answer {
+    let text: String = WHOLE.replace(rt.alloc(), old, new).expect(rt, "memory");
+    answered(rt, text.as_bytes())
+}
+
+// Rows of a part that stands in the whole program's text, what takes its place, and the answer.
 fn check_replaced(rt: &(impl Abort + AllocGlobal), table: &[(&str, &str, Answer)]) {
     for (old, new, wanted) in table {
         assert!(rt; WHOLE.contains(*old), "{old}");
-        let text: String = WHOLE.replace(rt.alloc(), *old, new).expect(rt, "memory");
-        assert!(rt; answered(rt, text.as_bytes()) == *wanted, "{new} for {old}");
+        assert!(rt;
+            answered_replaced(rt, old, new) == *wanted,
+            "{new} for {old}"
+        );
     }
 }
 

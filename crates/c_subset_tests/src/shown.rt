@@ -1,8 +1,7 @@
 //! What is read, in short words that tables compare.
 
 use c_subset::{Expr, Extract, Input, LoadBlock, Program, Stmt};
-use dt_fields::SetDef;
-use dt_values::CType;
+use dt_values::{CType, SetDef};
 use std::process::Abort;
 
 // More than any example has.
@@ -150,40 +149,58 @@ fn then<'a>(rt: &impl Abort, left: &mut Vec<Left<'a>>, next: Left<'a>) {
     left.push(next).expect(rt, "memory");
 }
 
+// Puts the first of these statements last, with what is left behind it.
+fn push_stmt<'a>(
+    rt: &(impl Abort + AllocGlobal),
+    shown: &mut String,
+    left: &mut Vec<Left<'a>>,
+    stmts: &'a [Stmt],
+) {
+    let Some((first, rest)) = stmts.split_first() else {
+        return push(rt, shown, " }");
+    };
+    push_head(rt, shown, first);
+    then(rt, left, Left::Stmts(rest));
+    match first {
+        Stmt::If(_, _, block) => then(rt, left, Left::Stmts(block.as_slice())),
+        Stmt::Switch(_, cases) => then(rt, left, Left::Cases(cases.as_slice())),
+        _ => {}
+    }
+}
+
+// The same of cases.
+fn push_cases<'a>(
+    rt: &(impl Abort + AllocGlobal),
+    shown: &mut String,
+    left: &mut Vec<Left<'a>>,
+    cases: &'a [(u64, Vec<Stmt>)],
+) {
+    let Some(((value, block), rest)) = cases.split_first() else {
+        return push(rt, shown, " }");
+    };
+    push_case(rt, shown, *value);
+    then(rt, left, Left::Cases(rest));
+    then(rt, left, Left::Stmts(block.as_slice()));
+}
+
+fn push_left(rt: &(impl Abort + AllocGlobal), shown: &mut String, left: &mut Vec<Left>) {
+    for _ in 0..MOST_TURNS {
+        match left.pop() {
+            None => return,
+            Some(Left::Stmts(stmts)) => push_stmt(rt, shown, left, stmts),
+            Some(Left::Cases(cases)) => push_cases(rt, shown, left, cases),
+        }
+    }
+    push(rt, shown, " and more");
+}
+
 /// Statements in braces, as `{ if ff 3 { call PATTERN SET; } switch 1 { case 1 { } } }`.
 pub fn stmts_shown(rt: &(impl Abort + AllocGlobal), stmts: &[Stmt]) -> String {
     let mut shown = String::new(rt.alloc());
-    push(rt, &mut shown, "{");
     let mut left = Vec::new(rt.alloc());
+    push(rt, &mut shown, "{");
     then(rt, &mut left, Left::Stmts(stmts));
-    for _ in 0..MOST_TURNS {
-        match left.pop() {
-            None => return shown,
-            Some(Left::Stmts(stmts)) => match stmts.split_first() {
-                None => push(rt, &mut shown, " }"),
-                Some((first, rest)) => {
-                    push_head(rt, &mut shown, first);
-                    then(rt, &mut left, Left::Stmts(rest));
-                    match first {
-                        Stmt::If(_, _, block) => then(rt, &mut left, Left::Stmts(block.as_slice())),
-                        Stmt::Switch(_, cases) => {
-                            then(rt, &mut left, Left::Cases(cases.as_slice()));
-                        }
-                        _ => {}
-                    }
-                }
-            },
-            Some(Left::Cases(cases)) => match cases.split_first() {
-                None => push(rt, &mut shown, " }"),
-                Some(((value, block), rest)) => {
-                    push_case(rt, &mut shown, *value);
-                    then(rt, &mut left, Left::Cases(rest));
-                    then(rt, &mut left, Left::Stmts(block.as_slice()));
-                }
-            },
-        }
-    }
-    push(rt, &mut shown, " and more");
+    push_left(rt, &mut shown, &mut left);
     shown
 }
 
@@ -208,37 +225,57 @@ fn push_bytes(rt: &(impl Abort + AllocGlobal), shown: &mut String, load: &Option
     }
 }
 
+// Puts a block last, with what is left behind it.
+fn push_block<'a>(
+    rt: &(impl Abort + AllocGlobal),
+    shown: &mut String,
+    left: &mut Vec<LoadLeft<'a>>,
+    block: &'a LoadBlock,
+) {
+    push_bytes(rt, shown, &block.load);
+    then_load(rt, left, LoadLeft::End);
+    if let Some((mask, cases)) = &block.switch {
+        push(rt, shown, " switch");
+        push_hexadecimal(rt, shown, *mask);
+        push(rt, shown, " {");
+        then_load(rt, left, LoadLeft::Cases(cases.as_slice()));
+    }
+}
+
+// The same of the first of these cases.
+fn push_load_case<'a>(
+    rt: &(impl Abort + AllocGlobal),
+    shown: &mut String,
+    left: &mut Vec<LoadLeft<'a>>,
+    cases: &'a [(u64, LoadBlock)],
+) {
+    let Some(((value, block), rest)) = cases.split_first() else {
+        return push(rt, shown, " }");
+    };
+    push_case(rt, shown, *value);
+    then_load(rt, left, LoadLeft::Cases(rest));
+    then_load(rt, left, LoadLeft::Block(block));
+}
+
+fn push_load_left(rt: &(impl Abort + AllocGlobal), shown: &mut String, left: &mut Vec<LoadLeft>) {
+    for _ in 0..MOST_TURNS {
+        match left.pop() {
+            None => return,
+            Some(LoadLeft::End) => push(rt, shown, " }"),
+            Some(LoadLeft::Block(block)) => push_block(rt, shown, left, block),
+            Some(LoadLeft::Cases(cases)) => push_load_case(rt, shown, left, cases),
+        }
+    }
+    push(rt, shown, " and more");
+}
+
 /// A block of the load function, as `{ load 0 2 switch 1 { case 1 { } } }`.
 pub fn load_shown(rt: &(impl Abort + AllocGlobal), block: &LoadBlock) -> String {
     let mut shown = String::new(rt.alloc());
-    push(rt, &mut shown, "{");
     let mut left = Vec::new(rt.alloc());
+    push(rt, &mut shown, "{");
     then_load(rt, &mut left, LoadLeft::Block(block));
-    for _ in 0..MOST_TURNS {
-        match left.pop() {
-            None => return shown,
-            Some(LoadLeft::End) => push(rt, &mut shown, " }"),
-            Some(LoadLeft::Block(block)) => {
-                push_bytes(rt, &mut shown, &block.load);
-                then_load(rt, &mut left, LoadLeft::End);
-                if let Some((mask, cases)) = &block.switch {
-                    push(rt, &mut shown, " switch");
-                    push_hexadecimal(rt, &mut shown, *mask);
-                    push(rt, &mut shown, " {");
-                    then_load(rt, &mut left, LoadLeft::Cases(cases.as_slice()));
-                }
-            }
-            Some(LoadLeft::Cases(cases)) => match cases.split_first() {
-                None => push(rt, &mut shown, " }"),
-                Some(((value, block), rest)) => {
-                    push_case(rt, &mut shown, *value);
-                    then_load(rt, &mut left, LoadLeft::Cases(rest));
-                    then_load(rt, &mut left, LoadLeft::Block(block));
-                }
-            },
-        }
-    }
-    push(rt, &mut shown, " and more");
+    push_load_left(rt, &mut shown, &mut left);
     shown
 }
 

@@ -4,13 +4,20 @@ use crate::shown::stmts_shown;
 use c_subset::{call_sites, read_c};
 use std::process::Abort;
 
+// The text's program has this body, and so many call sites.
+fn check_row(rt: &(impl Abort + AllocGlobal), text: &str, body: &str, sites: usize) {
+    let program = read_c(rt.alloc(), text.as_bytes()).expect(rt, "a program");
+    let shown = stmts_shown(rt, program.body.items());
+    assert!(rt;
+        call_sites(&program) == sites && shown.as_str() == body,
+        "{text}"
+    );
+}
+
 // Rows of a text, the body of the program that it spells, and how many call sites there are.
 fn check(rt: &(impl Abort + AllocGlobal), table: &[(&str, &str, usize)]) {
     for (text, body, sites) in table {
-        let program = read_c(rt.alloc(), text.as_bytes()).expect(rt, "a program");
-        assert!(rt; call_sites(&program) == *sites, "{text}");
-        let shown = stmts_shown(rt, program.body.items());
-        assert!(rt; shown.as_str() == *body, "{text}");
+        check_row(rt, text, body, *sites);
     }
 }
 

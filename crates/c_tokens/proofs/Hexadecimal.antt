@@ -13,8 +13,7 @@ use Rattle.dt_values.specs.declared.width.Width.{Width}
 use Rattle.dt_values.specs.declared.width.Width.TheVariants.{W16, W32, W64}
 use Rattle.dt_values.specs.Widths.{width_bits}
 use Rattle.dt_text.specs.Hexadecimal.{hex}
-use Rattle.c_tokens.specs.Words.{hex_length}
-use Rattle.c_tokens.specs.Words.{IsNumber, hex_bytes}
+use Rattle.c_tokens.specs.Words.{hex_length, IsNumber, hex_bytes}
 use Rattle.c_tokens.proofs.Fronts.{behind_front, not_behind}
 
 pub no_digits : (v : ℕ) → [] ≡ hex 0 v

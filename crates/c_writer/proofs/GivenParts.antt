@@ -1,14 +1,14 @@
 -- The values of a pattern's format and its own are parts of all, and together they are for each argument.
-use Rattle.std.proofs.Common.{◌≡◌, ◌+◌, Bool, true, false, cond, [], ◌∷◌, ◌++◌, get_or, ℤ, Option, Some, None, refl}
+use Rattle.std.proofs.Common.{◌≡◌, Bool, true, false, cond, [], ◌∷◌, ◌++◌, get_or, ℤ, Option, Some, None, refl}
 use Rattle.std.proofs.Common.{sym, subst, ap, ◌∙◌}
 use Rattle.std.specs.Prelude.{All, IsSome}
 use Rattle.std.proofs.lemmas.List.Elements.{All-head, All-tail}
 use Rattle.std.proofs.lemmas.Slice.Eq.{bytes_eq-Decides}
 use Rattle.dt_values.specs.Types.{is_text}
 use Rattle.dt_values.specs.declared.ctype.Member.{Member}
-use Rattle.dt_scope.specs.Patterns.{GivenValues}
-use Rattle.dt_scope.specs.declared.value.FieldValue.{FieldValue}
-use Rattle.dt_match.specs.Arguments.{given_in}
+use Rattle.dt_model.specs.Patterns.{GivenValues}
+use Rattle.dt_model.specs.declared.value.FieldValue.{FieldValue}
+use Rattle.dt_model.specs.SetOrder.{given_in}
 use Rattle.c_subset.specs.Programs.{Name}
 use Rattle.c_eval.specs.Runs.{Held}
 use Rattle.c_writer.specs.Parts.{NamedPattern}

@@ -17,47 +17,40 @@ use Rattle.dt_values.specs.declared.ctype.CType.TheVariants.{Int, I8, I16, I32, 
 use Rattle.dt_values.specs.declared.ctype.Member.{Member}
 use Rattle.dt_values.specs.declared.width.Width.{Width}
 use Rattle.dt_fields.specs.CNames.{begins_with_letter, is_ident, is_keyword, IsCName}
-use Rattle.dt_fields.specs.SetsByName.{set_at}
+use Rattle.dt_values.specs.SetsByName.{set_at}
 use Rattle.dt_fields.specs.SoundSets.{IsSoundType, IsSoundSet}
-use Rattle.dt_fields.specs.declared.set.SetDef.{SetDef}
-use Rattle.dt_scope.specs.declared.form.Format.{Format}
-use Rattle.dt_scope.specs.declared.form.Pattern.{Pattern}
-use Rattle.dt_scope.specs.declared.options.Options.{Options}
-use Rattle.dt_scope.specs.declared.value.FieldValue.{FieldValue}
-use Rattle.dt_scope.specs.Options.{IsOptions}
-use Rattle.dt_scope.specs.Patterns.{GivenValues, TrialPattern}
-use Rattle.dt_forms.specs.declared.model.Model.{Model}
-use Rattle.dt_forms.proofs.OptionNames.{option_named}
-use Rattle.dt_forms.specs.LineNames.{set_number}
-use Rattle.dt_forms.specs.Models.{definitions_in, trial_patterns}
-use Rattle.dt_forms.specs.Sound.{IsSound, IsSoundPattern, IsSoundValue}
-use Rattle.dt_forms.specs.View.{given_values, members_of_pattern, pattern_seen, trial_pattern}
+use Rattle.dt_values.specs.declared.set.SetDef.{SetDef}
+use Rattle.dt_model.specs.declared.format.Format.{Format}
+use Rattle.dt_model.specs.declared.pattern.Pattern.{Pattern}
+use Rattle.dt_model.specs.declared.options.Options.{Options}
+use Rattle.dt_model.specs.declared.value.FieldValue.{FieldValue}
+use Rattle.dt_model.specs.Options.{IsOptions}
+use Rattle.dt_model.specs.Patterns.{GivenValues}
+use Rattle.dt_model.specs.declared.model.Model.{Model}
+use Rattle.dt_model.proofs.OptionNames.{option_named}
+use Rattle.dt_model.specs.View.{set_number, given_values, members_of_pattern, pattern_seen, trial_pattern}
+use Rattle.dt_model.specs.Models.{definitions_in}
+use Rattle.dt_model.specs.Sound.{IsSound, IsSoundPattern, IsSoundValue}
 use Rattle.c_subset.specs.Programs.{Name, Extraction}
 use Rattle.c_exprs.specs.Forms.{AssignmentKeeps}
 use Rattle.c_exprs.specs.Exprs.{Assignment}
 use Rattle.c_subset.specs.Keeps.{ExtractionKeeps, IsTypeKept, SetKeeps}
-use Rattle.dt_match.specs.Arguments.{given_in}
-use Rattle.dt_match.specs.Hosts.{script}
+use Rattle.dt_model.specs.SetOrder.{given_in, given_before, in_set_order}
 use Rattle.c_eval.specs.Meaning.{helper_bits}
 use Rattle.c_eval.specs.Runs.{assigns_in}
 use Rattle.c_fields.specs.Values.{HasRoom}
 use Rattle.c_fields.specs.Written.{assignment_of}
 use Rattle.c_fields.proofs.Forms.{value_stands}
 use Rattle.c_writer.specs.Parts.{Parts, set_name, set_members, set_name_of, format_name, format_values_of}
-use Rattle.c_writer.specs.Parts.{assignments_of, extraction_of, named_pattern, parts_of, patterns_in}
-use Rattle.c_writer.specs.Chain.{chain_program}
-use Rattle.c_writer.specs.Layout.{layout}
+use Rattle.c_writer.specs.Parts.{assignments_of, extraction_of, named_pattern, parts_of}
 use Rattle.c_writer.specs.Sound.{IsSoundIn, HaveOneSet, AreSound, OwnKeeps}
-use Rattle.c_writer.specs.SetOrder.{given_before, in_set_order}
-use Rattle.c_writer.specs.Uses.{declared_sets, outside_sets}
+use Rattle.c_writer.specs.Uses.{declared_sets}
 use Rattle.c_writer.specs.Within.{AreWithin, FormatHasRoom, HaveValuesRoom, PatternHasRoom}
-use Rattle.c_writer.proofs.Chains.{program_agrees}
 use Rattle.c_writer.proofs.Extracting.{assigns_at}
 use Rattle.c_writer.proofs.Filling.{given_has}
 use Rattle.c_writer.proofs.GivenOnce.{given_apart}
 use Rattle.c_writer.proofs.SoundValues.{value_has_room, value_keeps}
-use Rattle.c_writer.proofs.Lines.{layout_tokens}
-use Rattle.c_writer.proofs.Rules.{pairs_map, keeps_rules}
+use Rattle.c_writer.proofs.Rules.{pairs_map}
 use Rattle.c_writer.proofs.SetsByName.{text_itself, found_at}
 
 no_set : SetDef
@@ -246,30 +239,30 @@ sound_parts options model asked width s = record {
   decoder_named = option_named options.decode asked.decode;
   prefix_named = option_named options.translate asked.translate;
   sets_named = names;
-  sets_differ = s.set_names;
-  sets_keep = declared_keep model.sets s.sets_sound;
+  sets_differ = s.formats.set_names;
+  sets_keep = declared_keep model.sets s.formats.sets;
   extractions_keep = All-map ExtractionKeeps extraction model.formats (λ k d below.
       let f = get_or model.formats k d in
       record {
-        format = s.formats_named k d below;
-        set = at IsName (λ (d : SetDef). d.name) model.sets f.set [] names (s.set_numbers k d below);
+        format = s.formats.named k d below;
+        set = at IsName (λ (d : SetDef). d.name) model.sets f.set [] names (s.formats.set_numbers k d below);
         assigns =
             extraction_keeps options.width (set_members model.sets f.set) f.values
             (at (λ (ms : List Member). All (λ m. IsName m.name) ms)
-            (λ (d : SetDef). d.members) model.sets f.set [] arguments (s.set_numbers k d below))
+            (λ (d : SetDef). d.members) model.sets f.set [] arguments (s.formats.set_numbers k d below))
             (values k d below);
       });
   formats_differ = apart;
   patterns_sound = All-map (IsSoundIn parts) (named_pattern model.sets model.formats) model.patterns each_sound;
   one_set = pairs_map HaveOneSet (named_pattern model.sets model.formats) no_pattern model.patterns
-      (λ i j d below within same. ap (set_name model.sets) (s.one_set i j d below within same));
+      (λ i j d below within same. ap (set_name model.sets) (s.patterns.one_set i j d below within same));
 }
   where
     parts : Parts
     parts = parts_of options (definitions_in model)
 
     names : All (λ s. IsName s.name) model.sets
-    names = All-weaker IsSoundSet (λ (d : SetDef). IsName d.name) (λ d h. h.named) model.sets s.sets_sound
+    names = All-weaker IsSoundSet (λ (d : SetDef). IsName d.name) (λ d h. h.named) model.sets s.formats.sets
 
     extraction : Format → Extraction
     extraction = extraction_of (helper_bits options.width) model.sets
@@ -278,44 +271,44 @@ sound_parts options model asked width s = record {
     arguments =
         All-weaker IsSoundSet (λ (d : SetDef). All (λ m. IsName m.name) d.members)
         (λ d h. All-weaker (λ (m : Member). IsCName m.name) (λ (m : Member). IsName m.name)
-        (λ m k. name_of_c_name m.name k) d.members h.c_names) model.sets s.sets_sound
+        (λ m k. name_of_c_name m.name k) d.members h.c_names) model.sets s.formats.sets
 
     values : All (λ (f : Format). All (λ v. IsSoundValue (width_bits options.width) v.1) f.values) model.formats
     values = subst (λ w. All (λ (f : Format). All (λ v. IsSoundValue (width_bits w) v.1) f.values) model.formats)
-        width s.format_values
+        width s.formats.values
 
     own_values : All (λ (p : Pattern). All (λ v. IsSoundValue (width_bits options.width) v.1) p.values) model.patterns
     own_values = subst (λ w. All (λ (p : Pattern). All (λ v. IsSoundValue (width_bits w) v.1) p.values)
-        model.patterns) width s.pattern_values
+        model.patterns) width s.patterns.values
 
     differ : All (λ (d : SetDef). AllPairs (λ (m n : Member). m.name ≢ n.name) d.members) model.sets
     differ = All-weaker IsSoundSet (λ (d : SetDef). AllPairs (λ (m n : Member). m.name ≢ n.name) d.members)
-        (λ d h. h.different) model.sets s.sets_sound
+        (λ d h. h.different) model.sets s.formats.sets
 
     apart : AllPairs (λ e f. e.format ≢ f.format) (map extraction model.formats)
-    apart = pairs_map (λ (e f : Extraction). e.format ≢ f.format) extraction no_format model.formats s.format_names
+    apart = pairs_map (λ (e f : Extraction). e.format ≢ f.format) extraction no_format model.formats s.formats.names
 
     flat : All (λ p. IsSoundPattern (width_bits model.width) (pattern_seen p)) model.patterns
     flat k d below =
         subst (IsSoundPattern (width_bits model.width))
         (get_or-map pattern_seen model.patterns k d (pattern_seen d) below)
-        (s.flat_sound k (pattern_seen d) (subst (λ l. k < l) (sym (length-map model.patterns pattern_seen)) below))
+        (s.patterns.flat k (pattern_seen d) (subst (λ l. k < l) (sym (length-map model.patterns pattern_seen)) below))
 
     each_sound : All (λ p. IsSoundIn parts (named_pattern model.sets model.formats p)) model.patterns
     each_sound k d below =
         let p = get_or model.patterns k d in
-        let format : p.format < length model.formats = s.format_numbers k d below in
+        let format : p.format < length model.formats = s.patterns.format_numbers k d below in
         let set : set_number model.formats p < length model.sets =
-        at (λ n. n < length model.sets) (λ (f : Format). f.set) model.formats p.format 0 s.set_numbers format in
+        at (λ n. n < length model.sets) (λ (f : Format). f.set) model.formats p.format 0 s.formats.set_numbers format in
         record {
           pattern = subst (λ w. IsSoundPattern (width_bits w) (pattern_seen p)) width (flat k d below);
-          format_named = at IsName (λ (f : Format). f.name) model.formats p.format [] s.formats_named format;
+          format_named = at IsName (λ (f : Format). f.name) model.formats p.format [] s.formats.named format;
           set_named = at IsName (λ (d : SetDef). d.name) model.sets (set_number model.formats p) [] names set;
-          set = set_there model.sets (set_number model.formats p) s.set_names set;
+          set = set_there model.sets (set_number model.formats p) s.formats.set_names set;
           format = format_there (helper_bits options.width) model.sets model.formats p apart format;
           values = record {
             each = each_given (members_of_pattern model.sets model.formats p) (given_values model.formats p)
-                (s.values k d below);
+                (s.patterns.arguments k d below);
             sound =
                 All-append (λ (v : Name × FieldValue). IsSoundValue (width_bits options.width) v.1)
                 (format_values_of model.formats p) p.values
@@ -329,7 +322,7 @@ sound_parts options model asked width s = record {
                 given_apart (format_values_of model.formats p) p.values (members_of_pattern model.sets model.formats p)
                 (at (λ (ms : List Member). AllPairs (λ m n. m.name ≢ n.name) ms)
                 (λ (d : SetDef). d.members) model.sets (set_number model.formats p) [] differ set)
-                (s.values k d below);
+                (s.patterns.arguments k d below);
           };
           own =
               own_keep options.width (set_name_of model.sets model.formats p)
@@ -341,7 +334,7 @@ sound_parts options model asked width s = record {
 
 -- the numbers of a sound model are in range
 pub within_sound : (model : Model) → IsSound model → AreWithin (definitions_in model)
-within_sound model s = record { forms = s.set_numbers; patterns = s.format_numbers }
+within_sound model s = record { forms = s.formats.set_numbers; patterns = s.patterns.format_numbers }
 
 -- helpers have room for its values
 have_room : (w : Width) (vs : GivenValues) → All (λ v. IsSoundValue (width_bits w) v.1) vs
@@ -353,13 +346,13 @@ pub room_sound : (options : Options) (model : Model) → model.width ≡ options
     → All (FormatHasRoom (helper_bits options.width)) model.formats
 room_sound options model width s =
     subst (λ w. All (FormatHasRoom (helper_bits w)) model.formats) width
-    (λ k d below. have_room model.width (get_or model.formats k d).values (s.format_values k d below))
+    (λ k d below. have_room model.width (get_or model.formats k d).values (s.formats.values k d below))
 
 pub own_room_sound : (options : Options) (model : Model) → model.width ≡ options.width → IsSound model
     → All (PatternHasRoom (helper_bits options.width)) model.patterns
 own_room_sound options model width s =
     subst (λ w. All (PatternHasRoom (helper_bits w)) model.patterns) width
-    (λ k d below. have_room model.width (get_or model.patterns k d).values (s.pattern_values k d below))
+    (λ k d below. have_room model.width (get_or model.patterns k d).values (s.patterns.values k d below))
 
 pub trials_of_parts : (sets : List SetDef) (formats : List Format) (ps : List Pattern)
     → map (λ q. q.trial) (map (named_pattern sets formats) ps) ≡ map (trial_pattern sets formats) ps

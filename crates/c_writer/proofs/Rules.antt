@@ -1,27 +1,47 @@
 -- The program of sound parts keeps the rules of the C subset.
 use Rattle.std.proofs.Common.{◌≡◌, ◌≢◌, ℕ, ◌<◌, ◌^◌, ◌==◌, List, [], ◌∷◌, Bool, true, false, not, refl, sym, arith, map}
 use Rattle.std.proofs.Common.{filter, subst}
-use Rattle.std.specs.Prelude.{◌↔◌, nat_eq, IsSome, IfSome}
-use Rattle.std.specs.List.{All}
+use Rattle.std.specs.Prelude.{◌↔◌, nat_eq, IsSome, IfSome, length, get_or}
+use Rattle.std.specs.List.{All, AllPairs}
 use Rattle.std.specs.Cmp.Lexicographic.{pointwise, nat_list_eq_equiv}
 use Rattle.std.proofs.lemmas.List.Elements.{All-head, All-tail, All-weaker, filter_passes}
+use Rattle.std.proofs.lemmas.List.Elements.{All-map, All-filter, All-cons}
 use Rattle.std.proofs.lemmas.List.Kept.{AllPairs-cons, AllPairs-filter}
-use Rattle.std.specs.List.{AllPairs}
-use Rattle.std.specs.Prelude.{length, get_or}
 use Rattle.std.proofs.lemmas.List.{get_or-map, length-map}
 use Rattle.dt_values.specs.Names.{IsName}
 use Rattle.dt_values.specs.Widths.{width_bits}
-use Rattle.dt_fields.specs.declared.set.SetDef.{SetDef}
+use Rattle.dt_values.specs.declared.set.SetDef.{SetDef}
 use Rattle.c_exprs.specs.Exprs.{Assignment}
 use Rattle.c_subset.specs.Programs.{Name, Prefix, Pattern, Extraction, Stmts, done}
+use Rattle.c_subset.specs.Keeps.{PatternNamed, ExtractionKeeps}
 use Rattle.c_subset.specs.Keeps.{StmtsKeep, StmtsHaveCases, StmtsBelow, HaveNoCall, AllDiffer, KeepsRules}
 use Rattle.c_eval.specs.Meaning.{helper_bits}
 use Rattle.c_writer.specs.Parts.{NamedPattern, Parts, own_assignments}
 use Rattle.c_writer.specs.Prototypes.{has_other_name, first_of_each_name, prototype_of, prototypes}
 use Rattle.c_writer.specs.Chain.{assigns_then, body_then, test_then, chain, prefix_where_patterns, chain_program}
 use Rattle.c_writer.specs.Sound.{IsSoundIn, AreSound, OwnKeeps}
-use Rattle.c_writer.specs.Uses.{is_set_used, is_format_used}
-use Rattle.c_writer.proofs.Lines.{prototypes_named, used_sets_named, used_extractions_keep}
+use Rattle.c_writer.specs.Uses.{is_set_used, is_format_used, used_sets, used_extractions}
+
+-- the first patterns of names are sound as all are
+pub firsts_have : (P : NamedPattern → Type 0) (qs : List NamedPattern) → All P qs → All P (first_of_each_name qs)
+firsts_have P [] h = h
+firsts_have P (q ∷ qs) h = All-cons P q _ (All-head P q qs h)
+    (All-filter (has_other_name q) P (first_of_each_name qs) (firsts_have P qs (All-tail P q qs h)))
+
+pub prototypes_named : (p : Parts) → AreSound p → All PatternNamed (prototypes p.patterns)
+prototypes_named p s =
+    All-map PatternNamed prototype_of (first_of_each_name p.patterns)
+    (All-weaker (IsSoundIn p) (λ q. PatternNamed (prototype_of q))
+    (λ q h. record { name = h.pattern.named; set = h.set_named }) _
+    (firsts_have (IsSoundIn p) p.patterns s.patterns_sound))
+
+pub used_sets_named : (p : Parts) → AreSound p → All IsName (used_sets p)
+used_sets_named p s = All-filter (is_set_used p.patterns) IsName _
+    (All-map IsName (λ (d : SetDef). d.name) p.sets s.sets_named)
+
+pub used_extractions_keep : (p : Parts) → AreSound p → All ExtractionKeeps (used_extractions p)
+used_extractions_keep p s = All-filter
+    (λ e. is_format_used p.patterns e.format) ExtractionKeeps p.extractions s.extractions_keep
 
 -- patterns of other names
 abbrev HaveOtherNames : NamedPattern → NamedPattern → Type 0

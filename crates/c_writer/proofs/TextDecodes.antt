@@ -1,13 +1,12 @@
 -- The text of a sound model decodes its patterns.
 use Rattle.std.proofs.Common.{◌≡◌, ℕ, List, refl, subst, sym}
-use Rattle.dt_scope.specs.declared.options.Options.{Options}
-use Rattle.dt_scope.specs.Options.{IsOptions}
-use Rattle.dt_scope.specs.Patterns.{TrialPattern}
-use Rattle.dt_forms.specs.declared.model.Model.{Model}
-use Rattle.dt_forms.specs.Models.{definitions_in, trial_patterns}
-use Rattle.dt_forms.specs.Sound.{IsSound}
-use Rattle.c_subset.specs.Spells.{Spells}
-use Rattle.dt_match.specs.Hosts.{script}
+use Rattle.dt_model.specs.declared.options.Options.{Options}
+use Rattle.dt_model.specs.Options.{IsOptions}
+use Rattle.dt_model.specs.Patterns.{TrialPattern}
+use Rattle.dt_model.specs.declared.model.Model.{Model}
+use Rattle.dt_model.specs.Models.{definitions_in, trial_patterns}
+use Rattle.dt_model.specs.Sound.{IsSound}
+use Rattle.dt_host.specs.Hosts.{script}
 use Rattle.c_writer.specs.Chain.{chain_program}
 use Rattle.c_writer.specs.Decoders.{IsDecoder}
 use Rattle.c_writer.specs.Layout.{layout}
@@ -16,13 +15,9 @@ use Rattle.c_writer.specs.Sound.{AreSound}
 use Rattle.c_writer.specs.Uses.{outside_sets}
 use Rattle.c_writer.proofs.CallSites.{one_call_site}
 use Rattle.c_writer.proofs.Chains.{program_agrees}
-use Rattle.c_writer.proofs.Lines.{layout_tokens}
+use Rattle.c_writer.proofs.Lines.{layout_spells}
 use Rattle.c_writer.proofs.Models.{sound_parts, trials_of_parts}
-use Rattle.c_writer.proofs.Rules.{keeps_rules}
 use Rattle.c_writer.proofs.TextRuns.{spelled_program}
-
-layout_spells : (p : Parts) → AreSound p → Spells (layout p) (chain_program p)
-layout_spells p s = record { rules = keeps_rules p s; tokens = layout_tokens p s }
 
 layout_decodes : (p : Parts) → AreSound p → IsDecoder p.width (layout p) (outside_sets p.sets) (patterns_in p)
 layout_decodes p s = record {

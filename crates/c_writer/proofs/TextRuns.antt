@@ -1,16 +1,16 @@
 -- The program that a model's text spells, and its run.
 use Rattle.std.proofs.Common.{◌≡◌, ℕ, ◌<◌, ◌^◌, List, sym, subst}
 use Rattle.dt_values.specs.Widths.{width_bits}
-use Rattle.dt_scope.specs.declared.options.Options.{Options}
-use Rattle.dt_scope.specs.Options.{IsOptions}
-use Rattle.dt_scope.specs.Patterns.{TrialPattern}
-use Rattle.dt_forms.specs.declared.model.Model.{Model}
-use Rattle.dt_forms.specs.Models.{definitions_in, trial_patterns}
-use Rattle.dt_forms.specs.Sound.{IsSound}
+use Rattle.dt_model.specs.declared.options.Options.{Options}
+use Rattle.dt_model.specs.Options.{IsOptions}
+use Rattle.dt_model.specs.Patterns.{TrialPattern}
+use Rattle.dt_model.specs.declared.model.Model.{Model}
+use Rattle.dt_model.specs.Models.{definitions_in, trial_patterns}
+use Rattle.dt_model.specs.Sound.{IsSound}
 use Rattle.c_subset.specs.Programs.{Program}
 use Rattle.c_subset.specs.Spells.{Spells}
 use Rattle.c_subset.proofs.ProgramsRead.{spelled_once}
-use Rattle.dt_match.specs.Hosts.{Host}
+use Rattle.dt_host.specs.Hosts.{Host}
 use Rattle.dt_match.specs.Trial.{trial_of}
 use Rattle.c_eval.specs.Runs.{run_of}
 use Rattle.c_writer.specs.Agrees.{AgreesWith}
@@ -20,16 +20,15 @@ use Rattle.c_writer.specs.Parts.{Parts, parts_of}
 use Rattle.c_writer.specs.Sound.{AreSound}
 use Rattle.c_writer.specs.Uses.{outside_sets}
 use Rattle.c_writer.proofs.Chains.{program_agrees}
-use Rattle.c_writer.proofs.Lines.{layout_tokens}
+use Rattle.c_writer.proofs.Lines.{layout_spells}
 use Rattle.c_writer.proofs.Models.{sound_parts, trials_of_parts}
-use Rattle.c_writer.proofs.Rules.{keeps_rules}
 
 -- it is the one that tries the patterns
 pub spelled_program : (p : Parts) (program : Program) → AreSound p → Spells (layout p) program
     → program ≡ chain_program p
 spelled_program p program sound spells =
     spelled_once (layout p) program (chain_program p) spells
-    (record { rules = keeps_rules p sound; tokens = layout_tokens p sound })
+    (layout_spells p sound)
 
 pub run_of_text : {S : Type 0} (host : Host S) (options : Options) (model : Model) (program : Program) (word : ℕ)
     (state : S)

@@ -3,9 +3,9 @@
 ghost use Rattle.std.specs.Prelude.{◌≡◌, [], All, filter, flat_map, map, if◌then◌else◌};
 ghost use Rattle.dt_text.specs.Puts.{Puts};
 ghost use Rattle.c_eval.specs.Meaning.{helper_bits};
-ghost use Rattle.c_writer.specs.Layout.{extraction_head_line, extraction_lines, head_line, member_line};
-ghost use Rattle.c_writer.specs.Layout.{prototype_line, prototype_lines};
-ghost use Rattle.c_writer.specs.Layout.{set_end_line, set_head_line, set_lines, typed_line, typedef_line};
+ghost use Rattle.c_print.specs.Lines.{extraction_head_line, head_line, member_line, prototype_line};
+ghost use Rattle.c_print.specs.Lines.{set_end_line, set_head_line, static_text, typed_line, typedef_line};
+ghost use Rattle.c_print.specs.Printed.{extraction_text, pattern_text, set_text};
 ghost use Rattle.c_writer.specs.Parts.{extraction_of, prefix_in};
 ghost use Rattle.c_writer.specs.Prototypes.{prototype_seen};
 ghost use Rattle.c_writer.specs.Uses.{declared_sets, is_among};
@@ -15,10 +15,9 @@ use crate::assignments::write_assignments;
 use crate::names::{set_members, set_name};
 use crate::pieces::{word_type, write_close_line, write_static};
 use crate::prototype::Prototype;
-use dt_fields::SetDef;
-use dt_forms::{Format, Options};
+use dt_model::{Format, Options};
 use dt_text::{Out, Part, write_parts};
-use dt_values::{Member, Name, Width};
+use dt_values::{Member, Name, SetDef, Width};
 use indexmap::IndexSet;
 
 pub fn write_head<W: Out>(out: &mut W)
@@ -73,7 +72,7 @@ fn write_set_end<W: Out>(out: &mut W, name: &Name)
 }
 
 fn write_set<W: Out>(out: &mut W, set: &SetDef)
-    ensures { Puts (W.state out.old) (W.state out.new) (set_lines set.now) }
+    ensures { Puts (W.state out.old) (W.state out.new) (set_text set.now) }
 {
     write_set_head(out);
     write_members(out, set.members.items());
@@ -83,7 +82,7 @@ fn write_set<W: Out>(out: &mut W, set: &SetDef)
 // Writes nothing of a set that is declared elsewhere.
 #[tactic(auto, using(dt_text::proofs::Putting::puts_nothing))]
 fn write_set_unless_outside<W: Out>(out: &mut W, set: &SetDef)
-    ensures { Puts (W.state out.old) (W.state out.new) (if set.now.outside then [] else set_lines set.now) }
+    ensures { Puts (W.state out.old) (W.state out.new) (if set.now.outside then [] else set_text set.now) }
 {
     if !set.outside {
         write_set(out, set);
@@ -93,7 +92,7 @@ fn write_set_unless_outside<W: Out>(out: &mut W, set: &SetDef)
 /// Writes the sets that are declared in the text.
 #[tactic(auto, using(dt_text::proofs::Putting::puts_nothing))]
 pub fn write_sets<W: Out>(out: &mut W, sets: &[SetDef])
-    ensures { Puts (W.state out.old) (W.state out.new) (flat_map set_lines (declared_sets sets.now)) }
+    ensures { Puts (W.state out.old) (W.state out.new) (flat_map set_text (declared_sets sets.now)) }
 {
     for set in sets {
         write_set_unless_outside(out, set);
@@ -134,7 +133,7 @@ fn write_prototype_line<'a, W: Out>(out: &mut W, prefix: &'a Name, name: &'a Nam
 
 fn write_prototype<W: Out>(out: &mut W, options: &Options, prototype: &Prototype)
     ensures { Puts (W.state out.old) (W.state out.new)
-        (prototype_lines (prefix_in options.now) (prototype_seen prototype.now)) }
+        (pattern_text (prefix_in options.now) (prototype_seen prototype.now)) }
 {
     write_typedef(out, prototype);
     write_static(out, options.translate_static);
@@ -144,7 +143,7 @@ fn write_prototype<W: Out>(out: &mut W, options: &Options, prototype: &Prototype
 #[tactic(auto, using(dt_text::proofs::Putting::puts_nothing))]
 pub fn write_prototypes<W: Out>(out: &mut W, options: &Options, prototypes: &[Prototype])
     ensures { Puts (W.state out.old) (W.state out.new)
-        (flat_map (prototype_lines (prefix_in options.now)) (map prototype_seen prototypes.now)) }
+        (flat_map (pattern_text (prefix_in options.now)) (map prototype_seen prototypes.now)) }
 {
     for prototype in prototypes {
         write_prototype(out, options, prototype);
@@ -180,7 +179,7 @@ fn write_extraction_head<'a, W: Out>(
 fn write_extraction<W: Out>(out: &mut W, options: &Options, sets: &[SetDef], format: &Format)
     requires within { IsFormatWithin sets.now format.now }
     requires room { FormatHasRoom (helper_bits options.now.width) format.now }
-    ensures { Puts (W.state out.old) (W.state out.new) (extraction_lines options.now.width options.now.decode
+    ensures { Puts (W.state out.old) (W.state out.new) (extraction_text options.now.width options.now.decode
         (extraction_of (helper_bits options.now.width) sets.now format.now)) }
 {
     write_extraction_head(
@@ -213,7 +212,7 @@ fn write_extraction_where_used<W: Out>(
     requires within { IsFormatWithin sets.now format.now }
     requires room { FormatHasRoom (helper_bits options.now.width) format.now }
     ensures { Puts (W.state out.old) (W.state out.new) (if is_among used.now.keys format.now.name
-        then extraction_lines options.now.width options.now.decode
+        then extraction_text options.now.width options.now.decode
         (extraction_of (helper_bits options.now.width) sets.now format.now) else []) }
 {
     if used.contains(&format.name) {
@@ -233,7 +232,7 @@ pub fn write_extractions<W: Out>(
     requires within { AreFormsWithin sets.now formats.now }
     requires room { All (FormatHasRoom (helper_bits options.now.width)) formats.now }
     ensures { Puts (W.state out.old) (W.state out.new)
-        (flat_map (extraction_lines options.now.width options.now.decode)
+        (flat_map (extraction_text options.now.width options.now.decode)
         (filter (λ e. is_among used.now.keys e.format)
         (map (extraction_of (helper_bits options.now.width) sets.now) formats.now))) }
 {

@@ -3,7 +3,7 @@
 ghost use Rattle.std.specs.Prelude.{◌≡◌};
 ghost use Rattle.dt_text.specs.Puts.{Puts};
 ghost use Rattle.c_subset.specs.Programs.{word_type};
-ghost use Rattle.c_writer.specs.Layout.{close_line, static_text};
+ghost use Rattle.c_print.specs.Lines.{close_line, static_text};
 
 use dt_text::{Out, Part, write_parts};
 use dt_values::Width;

@@ -1,15 +1,16 @@
 //! Writes the decoder: its head, its union, and a test and a body for each pattern.
 
-ghost use Rattle.std.specs.Prelude.{◌≡◌, [], false, filter, flat_map, map, All, if◌then◌else◌};
+ghost use Rattle.std.specs.Prelude.{◌+◌, ◌≡◌, [], false, filter, flat_map, map, All, if◌then◌else◌};
 ghost use Rattle.dt_text.specs.Puts.{Puts};
-ghost use Rattle.dt_forms.specs.Models.{definitions_in};
-ghost use Rattle.dt_forms.specs.View.{pattern_seen};
+ghost use Rattle.dt_model.specs.Models.{definitions_in};
+ghost use Rattle.dt_model.specs.View.{pattern_seen};
 ghost use Rattle.c_tokens.specs.Words.{hex_length};
 ghost use Rattle.c_eval.specs.Meaning.{helper_bits};
-ghost use Rattle.c_writer.specs.Layout.{body_lines, call_line, comment_line, decoder_head_lines};
-ghost use Rattle.c_writer.specs.Layout.{empty_line, end_lines, extract_line, head_of_decoder, if_line};
-ghost use Rattle.c_writer.specs.Layout.{own_lines, pattern_lines, test_lines, union_end_lines, union_head_line};
-ghost use Rattle.c_writer.specs.Layout.{union_lines, union_set_line, union_where_patterns};
+ghost use Rattle.c_print.specs.Lines.{call_line, close_line, empty_line, end_lines, extract_line, head_of_decoder};
+ghost use Rattle.c_print.specs.Lines.{if_line, mark_line, union_end_lines, union_head_line, union_set_line};
+ghost use Rattle.c_print.specs.Printed.{decoder_head_text};
+ghost use Rattle.c_writer.specs.Layout.{body_block, own_lines, pattern_lines, test_block, union_sets_lines};
+ghost use Rattle.c_writer.specs.Layout.{union_where_patterns, written};
 ghost use Rattle.c_writer.specs.Parts.{named_pattern, parts_of, set_name_of};
 ghost use Rattle.c_writer.specs.Uses.{is_among};
 ghost use Rattle.c_writer.specs.Within.{AreWithin, IsPatternWithin, PatternHasRoom};
@@ -17,10 +18,9 @@ ghost use Rattle.c_writer.specs.Within.{AreWithin, IsPatternWithin, PatternHasRo
 use crate::assignments::write_assignments;
 use crate::names::{format_of, members_of, set_of};
 use crate::pieces::{word_type, write_close_line, write_static};
-use dt_fields::SetDef;
-use dt_forms::{Model, Options, Pattern};
+use dt_model::{Model, Options, Pattern};
 use dt_text::{Out, Part, write_parts};
-use dt_values::{Name, Width};
+use dt_values::{Name, SetDef, Width};
 use indexmap::IndexSet;
 
 fn write_empty_line<W: Out>(out: &mut W)
@@ -46,7 +46,7 @@ fn write_head_of_decoder<W: Out>(out: &mut W, width: Width, decoder: &Name)
 
 pub fn write_decoder_head<W: Out>(out: &mut W, options: &Options)
     ensures { Puts (W.state out.old) (W.state out.new)
-        (decoder_head_lines options.now.width options.now.decode options.now.decode_static) }
+        (decoder_head_text options.now.width options.now.decode options.now.decode_static) }
 {
     write_empty_line(out);
     write_static(out, options.decode_static);
@@ -103,7 +103,7 @@ fn write_union_end<W: Out>(out: &mut W)
 
 fn write_union<W: Out>(out: &mut W, used: &IndexSet<Name>, sets: &[SetDef])
     ensures { Puts (W.state out.old) (W.state out.new)
-        (union_lines (filter (is_among used.now.keys) (map (λ s. s.name) sets.now))) }
+        (union_sets_lines (filter (is_among used.now.keys) (map (λ s. s.name) sets.now))) }
 {
     write_union_head(out);
     write_union_sets(out, used, sets);
@@ -125,7 +125,8 @@ pub fn write_union_where_patterns<W: Out>(out: &mut W, used: &IndexSet<Name>, mo
 
 // The file's number is counted from 1.
 fn write_comment_line<W: Out>(out: &mut W, level: u32, pattern: &Pattern)
-    ensures { Puts (W.state out.old) (W.state out.new) (comment_line level (pattern_seen pattern.now)) }
+    ensures { Puts (W.state out.old) (W.state out.new) (mark_line level
+        ((pattern_seen pattern.now).file + 1) (pattern_seen pattern.now).line) }
 {
     write_parts(
         out,
@@ -219,8 +220,8 @@ fn write_body<W: Out>(out: &mut W, options: &Options, model: &Model, level: u32,
     requires pattern { IsPatternWithin model.now.formats pattern.now }
     requires room { PatternHasRoom (helper_bits options.now.width) pattern.now }
     ensures { Puts (W.state out.old) (W.state out.new)
-        (body_lines (parts_of options.now (definitions_in model.now)) level
-        (named_pattern model.now.sets model.now.formats pattern.now)) }
+        (written (parts_of options.now (definitions_in model.now)) level
+        (body_block (helper_bits options.now.width) (named_pattern model.now.sets model.now.formats pattern.now))) }
 {
     let format = format_of(model.formats.items(), pattern);
     let set = set_of(model.sets.items(), model.formats.items(), pattern);
@@ -262,8 +263,8 @@ fn write_guarded_body<W: Out>(out: &mut W, options: &Options, model: &Model, pat
     requires pattern { IsPatternWithin model.now.formats pattern.now }
     requires room { PatternHasRoom (helper_bits options.now.width) pattern.now }
     ensures { Puts (W.state out.old) (W.state out.new)
-        (test_lines false (parts_of options.now (definitions_in model.now))
-        (named_pattern model.now.sets model.now.formats pattern.now)) }
+        (written (parts_of options.now (definitions_in model.now)) 4 (test_block false
+        (helper_bits options.now.width) (named_pattern model.now.sets model.now.formats pattern.now))) }
 {
     write_if_line(
         out,

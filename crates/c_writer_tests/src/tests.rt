@@ -2,19 +2,20 @@
 //! kind, and with patterns that have values of their own beside those of their format (docs/C_SUBSET.md, "The text").
 
 ghost use Rattle.std.specs.Prelude.{◌≡◌, [], All, IfOk, vec_len};
-ghost use Rattle.dt_scope.specs.Options.{IsOptions};
-ghost use Rattle.dt_forms.specs.Models.{definitions_in};
+ghost use Rattle.dt_model.specs.Options.{IsOptions};
+ghost use Rattle.dt_model.specs.Models.{definitions_in};
 ghost use Rattle.c_fields.specs.Values.{HasRoom};
 ghost use Rattle.c_writer.specs.Within.{AreWithin, FormatHasRoom, HaveValuesRoom, PatternHasRoom};
 
 use c_writer::text::{layout, text};
-use dt_fields::{FieldDef, MemberList, Segment, Segments, SetDef};
-use dt_forms::{
-    Entry, EntryList, FieldValue, Format, FormatList, Model, Options, Pattern, PatternList,
-    SetList, Source, ValueList, read_model,
-};
+use dt_fields::{FieldDef, Segment, Segments};
+use dt_forms::{Source, read_model};
 use dt_lines::LARGEST_FILE;
-use dt_values::{CType, Member, Name, Width};
+use dt_model::{
+    Entry, EntryList, FieldValue, Format, FormatList, Model, Options, Pattern, PatternList,
+    SetList, ValueList,
+};
+use dt_values::{CType, Member, MemberList, Name, SetDef, Width};
 use std::alloc::Global;
 use std::process::Abort;
 use std::test::Fail;

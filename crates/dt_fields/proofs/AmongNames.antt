@@ -9,8 +9,8 @@ use Rattle.indexmap.specs.IndexSet.{insert_key}
 use Rattle.dt_values.specs.Types.{is_text}
 use Rattle.dt_values.specs.declared.ctype.Member.{Member}
 use Rattle.dt_fields.specs.Arguments.{AreArgumentsAmong, IsAmong, has_argument}
-use Rattle.dt_fields.specs.SetLines.{has_member}
-use Rattle.dt_fields.specs.declared.set.SetDef.{SetDef}
+use Rattle.dt_values.specs.Members.{has_member}
+use Rattle.dt_values.specs.declared.set.SetDef.{SetDef}
 
 abbrev pub is_among : List (List ℕ) → List ℕ → Bool
 is_among names name = list_any (is_text name) names

@@ -11,14 +11,15 @@ use Rattle.dt_values.specs.Types.{is_text, type_of}
 use Rattle.dt_values.specs.declared.ctype.CType.TheVariants as c
 use Rattle.dt_values.specs.declared.ctype.Member.{Member}
 use Rattle.dt_fields.specs.declared.rule.Rule.TheVariants as rule
-use Rattle.dt_fields.specs.declared.set.SetDef.{SetDef}
-use Rattle.dt_fields.specs.declared.set.TheConstants.{MOST_ARGUMENTS}
+use Rattle.dt_values.specs.declared.set.SetDef.{SetDef}
+use Rattle.dt_values.specs.declared.set.TheConstants.{MOST_ARGUMENTS}
 use Rattle.dt_fields.specs.CNames.{IsCName, begins_with_letter, is_ident, is_keyword}
 use Rattle.dt_fields.specs.Faults.{Broken, where_broken, token, named}
 use Rattle.dt_fields.specs.Parts.{parts_at_byte}
-use Rattle.dt_fields.specs.SetLines.{begins_set, empty_set, has_member, is_taken, line_set, set_line_faults, set_of, set_token_faults, set_token_rows, set_with_token, set_with_tokens, whole_set_faults}
+use Rattle.dt_fields.specs.SetLines.{begins_set, empty_set, is_taken, line_set, set_line_faults, set_of, set_token_faults, set_token_rows, set_with_token, set_with_tokens, whole_set_faults}
+use Rattle.dt_values.specs.Members.{has_member}
 use Rattle.dt_fields.specs.SetTokens.{SetToken, outside_mark, argument, other, argument_token, set_token, typed_argument}
-use Rattle.dt_fields.specs.SetsByName.{set_at}
+use Rattle.dt_values.specs.SetsByName.{set_at}
 use Rattle.dt_fields.specs.SoundSets.{IsSoundSet, IsSoundType}
 use Rattle.dt_fields.proofs.MarkedNames.{marked_is_name}
 use Rattle.dt_fields.proofs.NewNames.{none_found, none_passes, other_names}

@@ -3,7 +3,7 @@ use Rattle.std.proofs.Common.{◌≡◌, ℕ, ◌+◌, ◌<◌, List, [], ◌∷
 use Rattle.std.proofs.lemmas.List.{drop_more}
 use Rattle.dt_lines.specs.Spans.{text_at}
 use Rattle.dt_lines.specs.declared.line.Span.{Span}
-use Rattle.dt_fields.specs.declared.set.SetDef.{SetDef}
+use Rattle.dt_values.specs.declared.set.SetDef.{SetDef}
 use Rattle.dt_fields.specs.declared.fault.DefFault.{DefFault}
 use Rattle.dt_fields.specs.Faults.{Broken}
 use Rattle.dt_fields.specs.SetLines.{empty_set, set_of, set_with_token, set_with_tokens, set_token_faults, set_token_rows}

@@ -2,8 +2,8 @@
 use Rattle.std.specs.Prelude.{◌≡◌, ℕ, Bool, true, List}
 use Rattle.std.specs.List.{list_any}
 use Rattle.dt_values.specs.Types.{is_text}
-use Rattle.dt_fields.specs.SetLines.{has_member}
-use Rattle.dt_fields.specs.declared.set.SetDef.{SetDef}
+use Rattle.dt_values.specs.Members.{has_member}
+use Rattle.dt_values.specs.declared.set.SetDef.{SetDef}
 
 -- a set has an argument of this name
 abbrev pub has_argument : List SetDef → List ℕ → Bool

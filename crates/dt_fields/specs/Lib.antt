@@ -15,7 +15,6 @@ pub mod SetLines
 pub mod SetTokens
 pub mod SoundFields
 pub mod SoundSets
-pub mod SetsByName
 pub mod Tables
 pub mod TokenView
 pub mod View

@@ -3,14 +3,14 @@
 use Rattle.std.specs.Prelude.{ℕ, ◌||◌, Bool, true, false, List, [], ◌∷◌, ◌++◌, length, drop, is_some, nat_le}
 use Rattle.std.specs.List.{list_any}
 use Rattle.dt_values.specs.Types.{is_text}
-use Rattle.dt_values.specs.declared.ctype.Member.{Member}
+use Rattle.dt_values.specs.Members.{has_member}
 use Rattle.dt_fields.specs.declared.rule.Rule.TheVariants as rule
-use Rattle.dt_fields.specs.declared.set.SetDef.{SetDef}
-use Rattle.dt_fields.specs.declared.set.TheConstants.{MOST_ARGUMENTS}
+use Rattle.dt_values.specs.declared.set.SetDef.{SetDef}
+use Rattle.dt_values.specs.declared.set.TheConstants.{MOST_ARGUMENTS}
 use Rattle.dt_fields.specs.CNames.{is_keyword}
 use Rattle.dt_fields.specs.Faults.{Broken, where_broken, token, named}
 use Rattle.dt_fields.specs.Heads.{begins}
-use Rattle.dt_fields.specs.SetsByName.{set_at}
+use Rattle.dt_values.specs.SetsByName.{set_at}
 use Rattle.dt_fields.specs.SetTokens.{SetToken, outside_mark, argument, other, set_token}
 
 abbrev pub empty_set : List ℕ → SetDef
@@ -29,9 +29,6 @@ set_with_tokens set (t ∷ ts) = set_with_tokens (set_with_token set (set_token 
 -- the set of this name and these tokens
 abbrev pub set_of : List ℕ → List (List ℕ) → SetDef
 set_of name tokens = set_with_tokens (empty_set name) tokens
-
-abbrev pub has_member : List Member → List ℕ → Bool
-has_member members name = list_any (λ m. is_text name m.name) members
 
 abbrev pub is_no_form : SetToken → Bool
 is_no_form outside_mark = false

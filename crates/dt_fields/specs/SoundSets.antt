@@ -5,8 +5,8 @@ use Rattle.dt_values.specs.Names.{IsName}
 use Rattle.dt_values.specs.Types.{type_of}
 use Rattle.dt_values.specs.declared.ctype.CType.{CType}
 use Rattle.dt_values.specs.declared.ctype.CType.TheVariants as c
-use Rattle.dt_fields.specs.declared.set.SetDef.{SetDef}
-use Rattle.dt_fields.specs.declared.set.TheConstants.{MOST_ARGUMENTS}
+use Rattle.dt_values.specs.declared.set.SetDef.{SetDef}
+use Rattle.dt_values.specs.declared.set.TheConstants.{MOST_ARGUMENTS}
 use Rattle.dt_fields.specs.CNames.{IsCName, begins_with_letter}
 
 -- the name of a type that is none of the known ones: an identifier, and no known type's name

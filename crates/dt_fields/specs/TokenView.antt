@@ -5,7 +5,7 @@ use Rattle.std.specs.List.{list_all}
 use Rattle.dt_fields.specs.declared.segment.Segment.TheVariants.{Bits}
 use Rattle.dt_fields.specs.declared.field_tokens.FieldToken.{FieldToken as KeptField}
 use Rattle.dt_fields.specs.declared.field_tokens.FieldToken.TheVariants as kept_field
-use Rattle.dt_fields.specs.declared.set.SetDef.{SetDef}
+use Rattle.dt_values.specs.declared.set.SetDef.{SetDef}
 use Rattle.dt_fields.specs.declared.set_lines.SetDraft.{SetDraft}
 use Rattle.dt_fields.specs.declared.set_tokens.SetToken.{SetToken as KeptSet}
 use Rattle.dt_fields.specs.declared.set_tokens.SetToken.TheVariants as kept_set

@@ -22,7 +22,7 @@ pub enum Detail {
 }
 
 /// Why a line defines nothing.
-#[derive(Clone, Copy, Debug, PartialEq, Eq, Error)]
+#[derive(Clone, Copy, Debug, Error)]
 pub enum DefFault {
     /// The line breaks a rule: the first that it breaks, with its detail.
     #[error("a line breaks a rule")]

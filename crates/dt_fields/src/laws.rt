@@ -7,7 +7,7 @@ ghost use Rattle.dt_fields.specs.SetLines.{begins_set, line_set, set_line_faults
 ghost use Rattle.dt_fields.specs.SoundFields.{IsSoundField};
 ghost use Rattle.dt_fields.specs.SoundSets.{IsSoundSet};
 ghost use Rattle.dt_fields.specs.Tables.{FieldTable};
-ghost use Rattle.dt_fields.specs.declared.set.SetDef.{SetDef};
+ghost use Rattle.dt_values.specs.declared.set.SetDef.{SetDef};
 
 /// A field line that breaks no rule defines a sound field. It names it by a name, and by no earlier field's.
 pub fn law_unbroken_field_is_sound()

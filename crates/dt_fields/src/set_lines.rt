@@ -4,9 +4,10 @@ ghost use Rattle.std.specs.Prelude.{◌≡◌, ◌++◌, ◌∷◌, [], ℕ, Non
 ghost use Rattle.std.specs.List.{list_any};
 ghost use Rattle.dt_values.specs.Types.{is_text};
 ghost use Rattle.dt_lines.specs.Spans.{IsWithin, AreSpans, text_at};
-ghost use Rattle.dt_fields.specs.SetLines.{begins_set, empty_set, has_member, line_set, set_faults, set_line_faults, set_of, set_token_faults, set_token_rows, set_with_token, whole_set_faults};
+ghost use Rattle.dt_fields.specs.SetLines.{begins_set, empty_set, line_set, set_faults, set_line_faults, set_of, set_token_faults, set_token_rows, set_with_token, whole_set_faults};
+ghost use Rattle.dt_values.specs.Members.{has_member};
 ghost use Rattle.dt_fields.specs.SetTokens.{argument, set_token};
-ghost use Rattle.dt_fields.specs.SetsByName.{set_at};
+ghost use Rattle.dt_values.specs.SetsByName.{set_at};
 ghost use Rattle.dt_fields.specs.TokenView.{set_of_draft};
 ghost use Rattle.dt_fields.specs.View.{DefBroken, TokenBroken, texts_at};
 
@@ -14,11 +15,11 @@ use crate::fault::{DefFault, Detail, refuse};
 use crate::head::{marked_name, split_line};
 use crate::number::is_keyword;
 use crate::rule::Rule;
-use crate::set::{MOST_ARGUMENTS, MemberList, SetDef, has_member};
 use crate::set_tokens::{SetToken, set_token};
 use crate::sets::Sets;
 use dt_lines::{Logical, Span};
-use dt_values::{Member, Name};
+use dt_values::set::has_member;
+use dt_values::{MOST_ARGUMENTS, Member, MemberList, Name, SetDef};
 use std::alloc::Global;
 
 /// Puts the set of a line last in the table. The line is one of `source`, and begins with `&` and a name. `patterns`

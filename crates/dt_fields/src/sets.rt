@@ -3,11 +3,11 @@
 ghost use Rattle.std.specs.Prelude.{◌≡◌, ◌++◌, ◌∷◌, [], ℕ, List, None, IfOk, OnOk, OnErr, length, slice_get, true};
 ghost use Rattle.std.specs.Option.{option_copied};
 ghost use Rattle.dt_fields.specs.Arguments.{IsAmong, has_argument};
-ghost use Rattle.dt_fields.specs.SetLines.{has_member};
-ghost use Rattle.dt_fields.specs.SetsByName.{place_of_set, set_at};
+ghost use Rattle.dt_values.specs.Members.{has_member};
+ghost use Rattle.dt_values.specs.SetsByName.{place_of_set, set_at};
 
-use crate::set::{SetDef, has_member};
-use dt_values::{Member, Name};
+use dt_values::set::has_member;
+use dt_values::{Member, Name, SetDef};
 use indexmap::{IndexMap, IndexSet};
 use std::alloc::{AllocError, Global};
 use std::marker::Model;
@@ -24,7 +24,7 @@ impl Model for Sets {
     ghost use Rattle.std.specs.Map.{values_of};
     ghost use Rattle.dt_fields.specs.Arguments.{AreArgumentsAmong};
     ghost use Rattle.dt_fields.specs.Keys.{Keyed};
-    ghost use Rattle.dt_fields.specs.declared.set.SetDef.{SetDef};
+    ghost use Rattle.dt_values.specs.declared.set.SetDef.{SetDef};
 
     ghost Value = { List SetDef };
 

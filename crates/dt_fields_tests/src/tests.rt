@@ -7,12 +7,11 @@ ghost use Rattle.dt_fields.specs.View.{texts_at};
 ghost use Rattle.dt_lines.specs.Spans.{AreSpans};
 
 use dt_fields::{
-    DefFault, Detail, FieldDef, Fields, MemberList, Rule, Segment, Segments, SetDef, Sets,
-    args_line, field_line,
+    DefFault, Detail, FieldDef, Fields, Rule, Segment, Segments, Sets, args_line, field_line,
 };
 use dt_lines::scan::logical;
 use dt_lines::{LARGEST_FILE, Logical, Span};
-use dt_values::{CType, Member, Name, Width};
+use dt_values::{CType, Member, MemberList, Name, SetDef, Width};
 use smallvec::SmallVec;
 use std::alloc::{AllocError, Global};
 use std::process::Abort;

@@ -1,20 +1,22 @@
 -- The model that is made of what lines define.
 use Rattle.std.proofs.Common.{◌≡◌, ℕ, List, map, ap, ◌∙◌}
-use Rattle.dt_fields.specs.declared.set.SetDef.{SetDef}
-use Rattle.dt_scope.specs.declared.form.Format.{Format}
-use Rattle.dt_scope.specs.declared.form.Pattern.{Pattern}
-use Rattle.dt_forms.specs.declared.model.Model.{Model}
-use Rattle.dt_scope.specs.declared.options.Options.{Options}
+use Rattle.dt_values.specs.declared.set.SetDef.{SetDef}
+use Rattle.dt_model.specs.declared.format.Format.{Format}
+use Rattle.dt_model.specs.declared.pattern.Pattern.{Pattern}
+use Rattle.dt_model.specs.declared.model.Model.{Model}
+use Rattle.dt_model.specs.declared.options.Options.{Options}
 use Rattle.dt_forms.specs.FileLines.{all_lines}
-use Rattle.dt_forms.specs.Models.{Definitions, IsModelOf, IsModelOfScope, definitions_in_scope}
+use Rattle.dt_model.specs.Models.{Definitions}
+use Rattle.dt_forms.specs.Models.{IsModelOf, IsModelOfScope, definitions_in_scope}
 use Rattle.dt_forms.specs.Rules.{scope_before}
 use Rattle.dt_scope.specs.Scope.{Scope}
-use Rattle.dt_forms.specs.View.{pattern_seen}
+use Rattle.dt_model.specs.View.{pattern_seen}
 
 abbrev definitions : List SetDef → List Format → List Pattern → Definitions
 definitions sets formats patterns = record { sets = sets; formats = formats; patterns = patterns }
 
-pub same_definitions : (sets others : List SetDef) (formats other_formats : List Format) (patterns other_patterns : List Pattern)
+pub same_definitions : (sets others : List SetDef) (formats other_formats : List Format)
+    (patterns other_patterns : List Pattern)
     → sets ≡ others → formats ≡ other_formats → patterns ≡ other_patterns
     → definitions sets formats patterns ≡ definitions others other_formats other_patterns
 same_definitions sets others formats other_formats patterns other_patterns e f g = cc

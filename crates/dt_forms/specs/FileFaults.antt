@@ -11,7 +11,7 @@ use Rattle.dt_fields.specs.declared.rule.Rule.TheVariants as rule
 use Rattle.dt_forms.specs.declared.fault.ModelFault.{ModelFault}
 use Rattle.dt_forms.specs.declared.fault.ModelFault.TheVariants as of_files
 use Rattle.dt_fields.specs.Faults.{nothing}
-use Rattle.dt_scope.specs.declared.options.Options.{Options}
+use Rattle.dt_model.specs.declared.options.Options.{Options}
 use Rattle.dt_forms.specs.Rules.{Fault, first_fault}
 
 -- in the file at this place: K1 at the first line that is one too many, K2 at the line of a long name

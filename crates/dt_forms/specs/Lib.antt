@@ -1,11 +1,5 @@
 pub mod FileLines
 pub mod Heads
-pub mod Inference
-pub mod LineArguments
-pub mod LineBits
-pub mod LineNames
-pub mod FormatLines
-pub mod PatternLines
 pub mod Structure
 pub mod Rules
 pub mod View
@@ -13,4 +7,4 @@ pub mod Models
 pub mod FileFaults
 pub mod Positions
 pub mod Sources
-pub mod Sound
+pub mod HeadedLines

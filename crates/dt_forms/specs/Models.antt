@@ -1,23 +1,15 @@
 -- The model that pattern files stand for.
 use Rattle.std.specs.Prelude.{◌≡◌, ℕ, List, map}
-use Rattle.dt_fields.specs.declared.set.SetDef.{SetDef}
-use Rattle.dt_scope.specs.declared.options.Options.{Options}
-use Rattle.dt_scope.specs.declared.form.Format.{Format}
-use Rattle.dt_scope.specs.declared.form.Pattern.{Pattern}
-use Rattle.dt_forms.specs.declared.model.Model.{Model}
+use Rattle.dt_model.specs.declared.options.Options.{Options}
+use Rattle.dt_model.specs.declared.model.Model.{Model}
 use Rattle.dt_forms.specs.FileLines.{all_lines}
-use Rattle.dt_scope.specs.Patterns.{FlatPattern, TrialPattern}
+use Rattle.dt_model.specs.Patterns.{FlatPattern, TrialPattern}
 use Rattle.dt_forms.specs.Rules.{scope_before}
 use Rattle.dt_scope.specs.Scope.{Scope}
 use Rattle.dt_scope.specs.Marks.{Mark, entries_of, spelled}
-use Rattle.dt_scope.specs.Trees.{Items, items_of}
-use Rattle.dt_forms.specs.View.{pattern_seen, trial_pattern}
-
--- what a decoder is made of: sets, formats and patterns, each in order of definition
-pub record Definitions : Type 0 where
-  pub sets : List SetDef
-  pub formats : List Format
-  pub patterns : List Pattern
+use Rattle.dt_model.specs.Trees.{Items, items_of}
+use Rattle.dt_model.specs.View.{pattern_seen}
+use Rattle.dt_model.specs.Models.{Definitions, definitions_in, trial_patterns}
 
 abbrev pub definitions_in_scope : Scope → Definitions
 definitions_in_scope scope = record { sets = scope.sets; formats = scope.formats; patterns = scope.patterns }
@@ -26,17 +18,9 @@ definitions_in_scope scope = record { sets = scope.sets; formats = scope.formats
 abbrev pub definitions_of : Options → List (List ℕ) → Definitions
 definitions_of options texts = definitions_in_scope (scope_before options (all_lines texts))
 
--- those of a model
-abbrev pub definitions_in : Model → Definitions
-definitions_in model = record { sets = model.sets; formats = model.formats; patterns = model.patterns }
-
 -- the patterns of files, where no line is broken
 abbrev pub flat_list : Options → List (List ℕ) → List FlatPattern
 flat_list options texts = map pattern_seen (definitions_of options texts).patterns
-
--- the same patterns as they are tried, with what their arguments get
-abbrev pub trial_patterns : Definitions → List TrialPattern
-trial_patterns d = map (trial_pattern d.sets d.formats) d.patterns
 
 abbrev pub trial_list : Options → List (List ℕ) → List TrialPattern
 trial_list options texts = trial_patterns (definitions_of options texts)

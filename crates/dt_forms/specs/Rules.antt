@@ -10,15 +10,15 @@ use Rattle.dt_fields.specs.FieldLines.{field_line_faults, line_field}
 use Rattle.dt_fields.specs.SetLines.{set_line_faults, line_set}
 use Rattle.dt_forms.specs.declared.head.Head.{Head}
 use Rattle.dt_forms.specs.declared.head.Head.TheVariants as head
-use Rattle.dt_scope.specs.declared.options.Options.{Options}
+use Rattle.dt_model.specs.declared.options.Options.{Options}
 use Rattle.dt_scope.specs.declared.kind.Kind.{Kind}
 use Rattle.dt_scope.specs.declared.kind.Opening.{Opening}
 use Rattle.dt_scope.specs.Groups.{innermost}
 use Rattle.dt_scope.specs.Marks.{opens, closes}
 use Rattle.dt_forms.specs.FileLines.{FileLine, file_lines, line_position}
 use Rattle.dt_forms.specs.Heads.{head_of, opening_text}
-use Rattle.dt_forms.specs.FormatLines.{after_format, format_faults}
-use Rattle.dt_forms.specs.PatternLines.{after_pattern, pattern_faults}
+use Rattle.dt_patterns.specs.FormatLines.{after_format, format_faults}
+use Rattle.dt_patterns.specs.PatternLines.{after_pattern, pattern_faults}
 use Rattle.dt_forms.specs.Structure.{indentation_row, structure_rows}
 use Rattle.dt_scope.specs.Scope.{Scope, nothing_defined, pattern_names}
 

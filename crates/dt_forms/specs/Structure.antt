@@ -11,7 +11,7 @@ use Rattle.dt_scope.specs.Groups.{innermost_kind}
 use Rattle.dt_scope.specs.Scope.{Scope}
 use Rattle.dt_forms.specs.declared.head.Head.{Head}
 use Rattle.dt_forms.specs.declared.head.Head.TheVariants as head
-use Rattle.dt_forms.specs.declared.limits.TheConstants.{MOST_DEPTH, MOST_PATTERNS}
+use Rattle.dt_model.specs.declared.limits.TheConstants.{MOST_DEPTH, MOST_PATTERNS}
 
 -- a token follows the first one: the line breaks this rule there
 abbrev pub extra_rows : Rule → List (List ℕ) → List Broken

@@ -2,17 +2,17 @@
 
 ghost use Rattle.std.specs.Prelude.{◌≡◌, ◌<◌, ◌≤◌, ◌^◌, ℕ, List, None, Some, true, length, get_or, All};
 ghost use Rattle.dt_values.specs.Widths.{width_bits};
-ghost use Rattle.dt_fields.specs.declared.field.FieldDef.{FieldDef};
-ghost use Rattle.dt_scope.specs.declared.options.Options.{Options};
-ghost use Rattle.dt_forms.specs.declared.limits.TheConstants.{MOST_FILES};
+ghost use Rattle.dt_model.specs.declared.options.Options.{Options};
+ghost use Rattle.dt_model.specs.declared.limits.TheConstants.{MOST_FILES};
 ghost use Rattle.dt_forms.specs.FileFaults.{HaveNoFileFault, file_fault, first_broken};
-ghost use Rattle.dt_forms.specs.Inference.{same_field};
-ghost use Rattle.dt_forms.specs.Models.{flat_list, marks_in_files};
-ghost use Rattle.dt_scope.specs.Options.{IsOptionName};
-ghost use Rattle.dt_scope.specs.Patterns.{position_of};
+ghost use Rattle.dt_forms.specs.Models.{IsModelOf, entries_in_files, flat_list, marks_in_files};
+ghost use Rattle.dt_model.specs.Trees.{items_of};
+ghost use Rattle.dt_model.specs.declared.model.Model.{Model};
+ghost use Rattle.dt_model.specs.Options.{IsOptionName};
+ghost use Rattle.dt_model.specs.Patterns.{position_of};
 ghost use Rattle.dt_forms.specs.Positions.{OpensWith, first_token_at};
 ghost use Rattle.dt_forms.specs.Rules.{Fault, first_fault};
-ghost use Rattle.dt_forms.specs.Sound.{IsSoundPattern};
+ghost use Rattle.dt_model.specs.Sound.{IsSoundPattern};
 
 /// Each pattern of the flat list of files that break no rule of lines is sound.
 pub fn law_flat_list_is_sound()
@@ -43,7 +43,8 @@ pub fn law_first_broken()
         → first_broken options texts ≡ Some fault }
 {}
 
-/// The test of two fields that decides which format a pattern takes is true exactly where they are the same.
-pub fn law_same_field()
-    ensures { (f g : FieldDef) → (same_field f g ≡ true → f ≡ g) × (f ≡ g → same_field f g ≡ true) }
+/// The entries of a model of files are those of the files.
+pub fn law_model_entries()
+    ensures { (options : Options) (texts : List (List ℕ)) (model : Model) → IsModelOf options texts model
+        → items_of model.entries ≡ entries_in_files options texts }
 {}

@@ -7,31 +7,31 @@ ghost use Rattle.dt_lines.specs.Spans.{AreSpans, IsWithin, line_seen, text_at};
 ghost use Rattle.dt_fields.specs.Faults.{first, token};
 ghost use Rattle.dt_fields.specs.View.{DefBroken, IsDetailWithin, detail_seen};
 ghost use Rattle.dt_forms.specs.FileLines.{all_lines, file_lines, in_file};
+ghost use Rattle.dt_forms.specs.HeadedLines.{IsHeaded, first_text, position_of, rest_texts};
 ghost use Rattle.dt_forms.specs.Heads.{head_of, opening_text};
 ghost use Rattle.dt_forms.specs.Models.{IsModelOf, IsModelOfScope};
+ghost use Rattle.dt_scope.specs.Scope.{nothing_defined};
 ghost use Rattle.dt_scope.specs.Groups.{innermost, innermost_kind};
-ghost use Rattle.dt_scope.specs.Options.{IsOptions};
+ghost use Rattle.dt_model.specs.Options.{IsOptions};
 ghost use Rattle.dt_forms.specs.Rules.{after_closing, after_head, after_line, after_lines, after_opening};
 ghost use Rattle.dt_forms.specs.Rules.{definition_faults, faults_from, faults_of_file, faults_of_line, first_fault};
 ghost use Rattle.dt_forms.specs.Rules.{head_faults, scope_before, unclosed_fault, unclosed_faults};
 ghost use Rattle.dt_forms.specs.Structure.{structure_rows};
 ghost use Rattle.dt_forms.specs.Positions.{IsFoundOpening};
-ghost use Rattle.dt_forms.specs.Sound.{IsSound};
+ghost use Rattle.dt_model.specs.Sound.{IsSound};
 ghost use Rattle.dt_forms.specs.Sources.{AreSources, IsSourceAt};
 ghost use Rattle.dt_forms.specs.View.{FileBroken, ModelBroken, fault_at, texts_of};
 
 use crate::fault::{Fault, ModelFault};
-use crate::format_line::add_format_line;
 use crate::head::{Head, head_of};
-use crate::limits::MOST_FILES;
-use crate::model::{Model, SetList};
-use crate::pattern_line::add_pattern_line;
 use crate::position::span_of_line;
 use crate::source::Source;
 use crate::structure::{check_indentation, check_structure};
 use dt_fields::{DefFault, Detail, Rule};
 use dt_lines::{Logical, Position, Span};
-use dt_scope::{EntryList, FormatList, Kind, Opening, Options, PatternList, Scope};
+use dt_model::{EntryList, FormatList, MOST_FILES, Model, Options, PatternList, SetList};
+use dt_patterns::{add_format_line, add_pattern_line};
+use dt_scope::{Kind, Opening, Scope};
 use std::alloc::{AllocError, Global};
 
 /// The model of these files, each read as the source at its place, from 0. Broken has a fault of the least line that
@@ -70,7 +70,6 @@ fn model_of(alloc: Global, options: &Options, scope: Scope) -> Result<Model, All
 }
 
 // What the lines of all files define.
-#[tactic(auto, using(crate::proofs::ReadFiles::broken_here))]
 fn read_files(alloc: Global, options: &Options, files: &[Source]) -> Result<Scope, ModelFault>
     requires options { IsOptions options.now }
     requires few { length files.now ≤ MOST_FILES }
@@ -82,13 +81,37 @@ fn read_files(alloc: Global, options: &Options, files: &[Source]) -> Result<Scop
         ModelBroken files.now fault (first_fault options.now (texts_of files.now))) }
 {
     let mut scope = Scope::new(alloc);
+    match read_each(alloc, options, files, &mut scope) {
+        Ok(()) => Ok(scope),
+        Err(fault) => Err(fault),
+    }
+}
+
+// Adds what the lines of all files define, where nothing is defined yet.
+#[tactic(auto, using(crate::proofs::ReadFiles::broken_here))]
+fn read_each(
+    alloc: Global,
+    options: &Options,
+    files: &[Source],
+    scope: &mut Scope,
+) -> Result<(), ModelFault>
+    requires options { IsOptions options.now }
+    requires few { length files.now ≤ MOST_FILES }
+    requires sources { AreSources files.now }
+    requires nothing { scope.old ≡ nothing_defined }
+    ensures scope { OnOk result (scope.new ≡ scope_before options.now (all_lines (texts_of files.now))) }
+    ensures closed { OnOk result (scope.new.groups ≡ []) }
+    ensures kept { OnOk result (first_fault options.now (texts_of files.now) ≡ None) }
+    ensures broken { IfErr result (λ fault.
+        ModelBroken files.now fault (first_fault options.now (texts_of files.now))) }
+{
     for (place, source) in files.iter().enumerate() {
-        match read_file(alloc, options, place as u16, source, &mut scope) {
+        match read_file(alloc, options, place as u16, source, scope) {
             Ok(()) => {}
             Err(fault) => return Err(fault),
         }
     }
-    Ok(scope)
+    Ok(())
 }
 
 // Reads a file, which begins with no open group.
@@ -226,7 +249,14 @@ fn read_line(
         return check_indentation(scope.depth(), line.indent, source);
     }
     let (first, rest) = split_line(tokens);
-    read_tokens(alloc, options, file, source, line, first, rest, scope)
+    let headed = HeadedLine {
+        file,
+        source,
+        line,
+        first,
+        rest,
+    };
+    read_tokens(alloc, options, headed, scope)
 }
 
 // The first token and the others.
@@ -238,35 +268,45 @@ fn split_line(tokens: &[Span]) -> (Span, &[Span])
     (*first, rest)
 }
 
-// Reads a line whose tokens are a first one and the rest.
+/// A line that has a token: the place of its file among all files, from 0, the file's bytes, the line, its first token,
+/// and the others.
+#[derive(Clone, Copy)]
+pub struct HeadedLine<'a> {
+    pub file: u16,
+    pub source: &'a [u8],
+    pub line: &'a Logical,
+    pub first: Span,
+    pub rest: &'a [Span],
+}
+
+// Reads a line that has a token.
 #[tactic(auto, using(dt_fields::proofs::FirstFaults::broken_prefix))]
 fn read_tokens(
     alloc: Global,
     options: &Options,
-    file: u16,
-    source: &[u8],
-    line: &Logical,
-    first: Span,
-    rest: &[Span],
+    headed: HeadedLine,
     scope: &mut Scope,
 ) -> Result<(), DefFault>
     requires options { IsOptions options.now }
-    requires spans { AreSpans (length source.now) line.now.tokens }
-    requires first { IsWithin (length source.now) first }
-    requires rest { All (IsWithin (length source.now)) rest.now }
-    requires tokens { line.now.tokens ≡ first ∷ rest.now }
-    ensures after { OnOk result (scope.new ≡ after_head options.now scope.old
-        (record { file = file; line = line.now.line }) (text_at source.now first) (map (text_at source.now) rest.now)
-        (head_of (text_at source.now first))) }
-    ensures kept { OnOk result (head_faults options.now scope.old line.now.indent (text_at source.now first)
-        (map (text_at source.now) rest.now) (head_of (text_at source.now first)) ≡ []) }
-    ensures broken { IfErr result (λ fault. DefBroken source.now fault (head_faults options.now scope.old
-        line.now.indent (text_at source.now first) (map (text_at source.now) rest.now)
-        (head_of (text_at source.now first)))) }
+    requires headed { IsHeaded headed }
+    ensures after { OnOk result (scope.new ≡ after_head options.now scope.old (position_of headed.entry)
+        (first_text headed.entry) (rest_texts headed.entry) (head_of (first_text headed.entry))) }
+    ensures kept { OnOk result (head_faults options.now scope.old headed.entry.line.now.indent
+        (first_text headed.entry) (rest_texts headed.entry) (head_of (first_text headed.entry)) ≡ []) }
+    ensures broken { IfErr result (λ fault. DefBroken headed.entry.source.now fault (head_faults options.now scope.old
+        headed.entry.line.now.indent (first_text headed.entry) (rest_texts headed.entry)
+        (head_of (first_text headed.entry)))) }
 {
-    let head = head_of(first.text(source));
-    match check_structure(scope, line.indent, source, first, rest, head) {
-        Ok(()) => add_definition(alloc, options, file, source, line, first, rest, scope),
+    let head = head_of(headed.first.text(headed.source));
+    match check_structure(
+        scope,
+        headed.line.indent,
+        headed.source,
+        headed.first,
+        headed.rest,
+        head,
+    ) {
+        Ok(()) => add_definition(alloc, options, headed, scope),
         Err(fault) => Err(fault),
     }
 }
@@ -290,33 +330,36 @@ fn close_group(scope: &mut Scope, kind: Kind) -> Result<(), DefFault>
     Ok(())
 }
 
-// Adds what a line with this head defines.
+// Adds what a line defines that breaks no rule of structure.
 #[tactic(auto, using(crate::proofs::HeadTokens::begins_with_field, crate::proofs::HeadTokens::begins_with_set))]
 fn add_definition(
     alloc: Global,
     options: &Options,
-    file: u16,
-    source: &[u8],
-    line: &Logical,
-    first: Span,
-    rest: &[Span],
+    headed: HeadedLine,
     scope: &mut Scope,
 ) -> Result<(), DefFault>
     requires options { IsOptions options.now }
-    requires spans { AreSpans (length source.now) line.now.tokens }
-    requires first { IsWithin (length source.now) first }
-    requires rest { All (IsWithin (length source.now)) rest.now }
-    requires tokens { line.now.tokens ≡ first ∷ rest.now }
-    requires structure { structure_rows scope.old line.now.indent (text_at source.now first)
-        (map (text_at source.now) rest.now) (head_of (text_at source.now first)) ≡ [] }
-    ensures after { OnOk result (scope.new ≡ after_head options.now scope.old
-        (record { file = file; line = line.now.line }) (text_at source.now first) (map (text_at source.now) rest.now)
-        (head_of (text_at source.now first))) }
-    ensures kept { OnOk result (definition_faults options.now scope.old (text_at source.now first)
-        (map (text_at source.now) rest.now) (head_of (text_at source.now first)) ≡ []) }
-    ensures broken { IfErr result (λ fault. DefBroken source.now fault (definition_faults options.now scope.old
-        (text_at source.now first) (map (text_at source.now) rest.now) (head_of (text_at source.now first)))) }
+    requires headed { IsHeaded headed }
+    requires structure { structure_rows scope.old headed.line.now.indent (first_text headed) (rest_texts headed)
+        (head_of (first_text headed)) ≡ [] }
+    ensures after { OnOk result (scope.new ≡ after_head options.now scope.old (position_of headed.entry)
+        (first_text headed.entry) (rest_texts headed.entry) (head_of (first_text headed.entry))) }
+    ensures kept { OnOk result (definition_faults options.now scope.old (first_text headed.entry)
+        (rest_texts headed.entry) (head_of (first_text headed.entry)) ≡ []) }
+    ensures broken { IfErr result (λ fault. DefBroken headed.entry.source.now fault (definition_faults options.now
+        scope.old (first_text headed.entry) (rest_texts headed.entry) (head_of (first_text headed.entry)))) }
 {
+    let HeadedLine {
+        file,
+        source,
+        line,
+        first,
+        rest,
+    } = headed;
+    let position = Position {
+        file,
+        line: line.line,
+    };
     match head_of(first.text(source)) {
         Head::Opens(kind) => {
             let opening = Opening {
@@ -331,10 +374,6 @@ fn add_definition(
         Head::Set(_) => scope.add_set(alloc, source, line),
         Head::Format(name) => add_format_line(alloc, options, scope, source, name, rest),
         Head::Pattern(name) => {
-            let position = Position {
-                file,
-                line: line.line,
-            };
             add_pattern_line(alloc, options, scope, source, position, name, rest)
         }
         Head::None => Ok(()),

@@ -10,9 +10,9 @@ ghost use Rattle.dt_forms.specs.Structure.{closing_rows, extra_rows, indentation
 ghost use Rattle.dt_forms.specs.Structure.{opening_rows, pattern_row, structure_rows};
 
 use crate::head::Head;
-use crate::limits::{MOST_DEPTH, MOST_PATTERNS};
 use dt_fields::{DefFault, Detail, Rule, refuse};
 use dt_lines::Span;
+use dt_model::{MOST_DEPTH, MOST_PATTERNS};
 use dt_scope::{Kind, Scope};
 
 /// Refuses a line that breaks a rule of structure.

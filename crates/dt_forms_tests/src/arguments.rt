@@ -2,7 +2,7 @@
 
 use crate::reading::{Refusal, Want, check_choices, check_fault, check_refusals, model_in};
 use dt_fields::{FieldDef, Rule, Segment};
-use dt_forms::{FieldValue, Model};
+use dt_model::{FieldValue, Model};
 use dt_values::{CType, Name, Width};
 use std::process::Abort;
 use std::test::Fail;

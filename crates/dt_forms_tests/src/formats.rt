@@ -2,7 +2,7 @@
 
 use crate::reading::{Refusal, Want, check_choices, check_refusals, model_in};
 use dt_fields::Rule;
-use dt_forms::{FieldValue, Format, Model, Pattern};
+use dt_model::{FieldValue, Format, Model, Pattern};
 use dt_values::{Name, Width};
 use std::process::Abort;
 use std::test::Fail;

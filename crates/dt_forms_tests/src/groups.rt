@@ -2,7 +2,7 @@
 
 use crate::reading::{Refusal, Want, check_fault, check_refusals, model_in};
 use dt_fields::Rule;
-use dt_forms::{Entry, Group, Model};
+use dt_model::{Entry, Group, Model};
 use dt_values::Width;
 use std::process::Abort;
 use std::test::Fail;

@@ -2,8 +2,9 @@
 
 use crate::reading::{Refusal, Want, check_fault, check_refusals, model_in, sources};
 use dt_fields::{Detail, Rule};
-use dt_forms::{Entry, Fault, MOST_FILES, MOST_PATTERNS, Model, ModelFault, Source, first_token};
+use dt_forms::{Fault, ModelFault, Source, first_token};
 use dt_lines::Position;
+use dt_model::{Entry, MOST_FILES, MOST_PATTERNS, Model};
 use dt_values::{CType, Width};
 use std::process::Abort;
 use std::test::Fail;

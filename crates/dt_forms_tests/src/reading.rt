@@ -1,12 +1,13 @@
 //! Reads small files: the models of sound ones, and what is wrong with faulty ones.
 
 ghost use Rattle.std.specs.Prelude.{◌≡◌, ◌+◌, ◌≤◌, length, vec_len, IfOk, OnOk};
-ghost use Rattle.dt_scope.specs.Options.{IsOptions};
+ghost use Rattle.dt_model.specs.Options.{IsOptions};
 ghost use Rattle.dt_forms.specs.Sources.{AreSources, IsSourceAt};
 
 use dt_fields::{Detail, Rule};
-use dt_forms::{Fault, MOST_FILES, Model, ModelFault, Options, Source, read_model};
+use dt_forms::{Fault, ModelFault, Source, read_model};
 use dt_lines::{LARGEST_FILE, Span};
+use dt_model::{MOST_FILES, Model, Options};
 use dt_values::Width;
 use std::alloc::Global;
 use std::process::Abort;

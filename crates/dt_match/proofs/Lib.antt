@@ -5,5 +5,5 @@ pub mod GivenNumbers
 pub mod SoundPatterns
 pub mod TrialSteps
 pub mod AlikeTrials
-pub mod ScriptCalls
+pub mod ScriptTrials
 pub mod Readable

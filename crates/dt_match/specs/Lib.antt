@@ -1,10 +1,7 @@
 pub mod FieldValues
 pub mod Arguments
-pub mod Hosts
 pub mod Trial
-pub mod Calls
-pub mod Alike
-pub mod Scripts
 pub mod Readable
 pub mod Matching
+pub mod ScriptTrials
 pub mod Examples

@@ -3,14 +3,15 @@
 ghost use Rattle.std.specs.Prelude.{◌≡◌, ◌≤◌, ◌++◌, length, option_map};
 ghost use Rattle.std.specs.Cmp.Lexicographic.{pointwise};
 ghost use Rattle.std.specs.Ordering.{int_eq};
-ghost use Rattle.dt_match.specs.Arguments.{given_in, held_in, value_of};
-ghost use Rattle.dt_match.specs.Calls.{AreItems};
+ghost use Rattle.dt_model.specs.SetOrder.{given_in};
+ghost use Rattle.dt_match.specs.Arguments.{held_in, value_of};
+ghost use Rattle.dt_host.specs.Calls.{AreItems};
 ghost use Rattle.dt_match.specs.Readable.{AreArguments, AreReadable, IsReadableValue, held_next, number_given};
 ghost use Rattle.dt_values.specs.Held.{held_by};
 
 use crate::field::field_value;
-use crate::host::Host;
-use dt_scope::FieldValue;
+use dt_host::Host;
+use dt_model::FieldValue;
 use dt_values::{Member, Name, Values};
 
 /// What the arguments of a set hold on a word, by what a format and then a pattern give them. All are read again until

@@ -2,7 +2,7 @@
 
 ghost use Rattle.std.specs.Prelude.{◌≡◌, pos, slice_get, unwrap_or};
 
-use dt_match::Host;
+use dt_host::Host;
 use dt_values::{Name, Values};
 
 /// It takes a call whose first value is that of the call before. Its functions answer 1 where that is 7, and else 2.

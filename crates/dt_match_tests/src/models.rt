@@ -1,10 +1,11 @@
 //! Models of small files.
 
 ghost use Rattle.std.specs.Prelude.{◌≤◌, IfOk, length};
-ghost use Rattle.dt_forms.specs.Sound.{IsSound};
-ghost use Rattle.dt_scope.specs.Options.{IsOptions};
+ghost use Rattle.dt_model.specs.Sound.{IsSound};
+ghost use Rattle.dt_model.specs.Options.{IsOptions};
 
-use dt_forms::{Model, Options, Source, read_model};
+use dt_forms::{Source, read_model};
+use dt_model::{Model, Options};
 use dt_values::{Name, Width};
 use std::alloc::Global;
 use std::test::Fail;

@@ -1,11 +1,12 @@
 //! Trials by example: with scripts, and with a host that answers by the values that it was handed.
 
-ghost use Rattle.dt_forms.specs.Sound.{IsSound};
+ghost use Rattle.dt_model.specs.Sound.{IsSound};
 
 use crate::echo::Echo;
 use crate::models::{NESTED, SHIFTS, SIZES, model, name};
-use dt_forms::Model;
-use dt_match::{Answer, Call, Script, call_one, first_match, trial};
+use dt_host::{Answer, Call, Script};
+use dt_match::{call_one, first_match, trial};
+use dt_model::Model;
 use dt_values::Width;
 use std::alloc::Global;
 use std::process::Abort;

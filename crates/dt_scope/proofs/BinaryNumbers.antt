@@ -8,7 +8,8 @@ use Rattle.dt_scope.specs.Bits.{fixed_digit, one_digit, ignored_digit, number_of
 power_times_two : (d n : ℕ) → d * 2 ^ suc n ≡ d * 2 ^ n * 2
 power_times_two d n = ap (λ m. d * m) (pow-suc 2 n) ∙ sym (mul_assoc d (2 ^ n) 2)
 
-pub number-push : (digit : ℕ → ℕ) (xs : List ℕ) (b : ℕ) → number_of digit (xs ++ b ∷ []) ≡ number_of digit xs * 2 + digit b
+pub number-push : (digit : ℕ → ℕ) (xs : List ℕ) (b : ℕ)
+    → number_of digit (xs ++ b ∷ []) ≡ number_of digit xs * 2 + digit b
 number-push digit [] b = omega arith
 number-push digit (x ∷ xs) b =
     let high : digit x * 2 ^ length (xs ++ b ∷ []) ≡ digit x * 2 ^ length xs * 2

@@ -20,7 +20,8 @@ one_more xs b =
 pub digits_more : (xs ys : List ℕ) → with_digits (bits_of xs) ys ≡ bits_of (xs ++ ys)
 digits_more xs [] = ap bits_of (sym (append-nil xs))
 digits_more xs (y ∷ ys) =
-    ap (λ b. with_digits b ys) (one_more xs y) ∙ digits_more (xs ++ y ∷ []) ys ∙ ap bits_of (append_assoc xs (y ∷ []) ys)
+    ap (λ b. with_digits b ys) (one_more xs y) ∙ digits_more (xs ++ y ∷ []) ys
+    ∙ ap bits_of (append_assoc xs (y ∷ []) ys)
 
 pub digits_at_start : (bits : Bits) (ys : List ℕ) → bits ≡ bits_of [] → with_digits bits ys ≡ bits_of ys
 digits_at_start bits ys none = ap (λ b. with_digits b ys) none ∙ digits_more [] ys
@@ -34,7 +35,8 @@ digits_count bits [] = omega arith
 digits_count bits (x ∷ xs) = omega (arith, digits_count (with_digit bits x) xs)
 
 -- where there is a digit for each bit of the word, the number at its top is the number
-pub at_top : (width : ℕ) (digit : ℕ → ℕ) (digits : List ℕ) → length digits ≡ width → number_at_top width digit digits ≡ number_of digit digits
+pub at_top : (width : ℕ) (digit : ℕ → ℕ) (digits : List ℕ) → length digits ≡ width
+    → number_at_top width digit digits ≡ number_of digit digits
 at_top width digit digits long =
     let none : width - length digits ≡ 0 = omega arith in
     let one : number_of digit digits * 2 ^ 0 ≡ number_of digit digits = omega arith in

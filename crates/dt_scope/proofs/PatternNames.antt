@@ -8,6 +8,8 @@ use Rattle.dt_fields.proofs.AmongNames.{among-insert_key, among_push}
 use Rattle.dt_scope.specs.Names.{IsSetOf}
 
 -- a name more
-pub set_more : (names keys more : List (List ℕ)) (n : List ℕ) → more ≡ insert_key (pointwise nat_eq) keys n → IsSetOf names keys → IsSetOf (names ++ n ∷ []) more
+pub set_more : (names keys more : List (List ℕ)) (n : List ℕ) → more ≡ insert_key (pointwise nat_eq) keys n
+    → IsSetOf names keys → IsSetOf (names ++ n ∷ []) more
 set_more names keys more n is same x =
-    ap (list_any (is_text x)) is ∙ among-insert_key keys n x ∙ ap (λ b. b || is_text x n) (same x) ∙ sym (among_push names n x)
+    ap (list_any (is_text x)) is ∙ among-insert_key keys n x ∙ ap (λ b. b || is_text x n) (same x)
+    ∙ sym (among_push names n x)

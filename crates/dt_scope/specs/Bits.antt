@@ -3,7 +3,7 @@
 use Rattle.std.specs.Prelude.{ℕ, ◌+◌, ◌-◌, ◌*◌, ◌^◌, ◌<◌, ◌==◌, ◌||◌, ◌&&◌, Bool, not, if◌then◌else◌, List, [], ◌∷◌, length}
 use Rattle.std.specs.Prelude.{bit_or, bit_xor}
 use Rattle.dt_scope.specs.declared.bits.Bits.{Bits}
-use Rattle.dt_scope.specs.declared.form.Format.{Format}
+use Rattle.dt_model.specs.declared.format.Format.{Format}
 
 -- a byte that stands for a bit: `0`, `1`, `.` or `-`
 abbrev pub is_bit : ℕ → Bool

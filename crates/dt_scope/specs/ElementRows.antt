@@ -6,20 +6,20 @@ use Rattle.std.specs.List.{list_any}
 use Rattle.dt_values.specs.Types.{is_text}
 use Rattle.dt_fields.specs.CNames.{is_c_name}
 use Rattle.dt_fields.specs.declared.rule.Rule.TheVariants as rule
-use Rattle.dt_fields.specs.declared.set.TheConstants.{MOST_ARGUMENTS}
+use Rattle.dt_values.specs.declared.set.TheConstants.{MOST_ARGUMENTS}
 use Rattle.dt_fields.specs.Faults.{Broken, where_broken, token}
-use Rattle.dt_fields.specs.SetsByName.{set_at}
+use Rattle.dt_values.specs.SetsByName.{set_at}
 use Rattle.dt_fields.specs.Tables.{FieldTable, is_held}
-use Rattle.dt_fields.specs.declared.set.SetDef.{SetDef}
+use Rattle.dt_values.specs.declared.set.SetDef.{SetDef}
 use Rattle.dt_scope.specs.Elements.{Element, set_named, format_named, constant, field_named, bits, in_place, other}
 use Rattle.dt_scope.specs.Elements.{element_of}
 use Rattle.dt_scope.specs.Fitting.{ValuesFit}
 use Rattle.dt_scope.specs.FormatsByName.{is_format}
 use Rattle.dt_scope.specs.Gathering.{given}
 use Rattle.dt_scope.specs.Scope.{Scope}
-use Rattle.dt_scope.specs.declared.form.Format.{Format}
+use Rattle.dt_model.specs.declared.format.Format.{Format}
 use Rattle.dt_scope.specs.declared.gather.Gathered.{Gathered}
-use Rattle.dt_scope.specs.Patterns.{GivenValues}
+use Rattle.dt_model.specs.Patterns.{GivenValues}
 
 -- an argument is among those that get something
 abbrev pub has_value : GivenValues → List ℕ → Bool
@@ -66,18 +66,22 @@ abbrev pub is_in_range : Bool → ℕ → Bool
 is_in_range true n = nat_le n (2 ^ 31)
 is_in_range false n = nat_lt n (2 ^ 32)
 
+-- those of the name and the number of a constant
+abbrev pub number_rows : List ℕ → List ℕ → Bool → ℕ → List Broken
+number_rows text name negative n =
+    where_broken (not (is_c_name name)) (rule.G7, token text)
+    ++ where_broken (not (is_in_range negative n)) (rule.G22, token text)
+
 -- those of an argument with a constant
 abbrev pub constant_rows : Gathered → List ℕ → List ℕ → Bool → ℕ → List Broken
-constant_rows before text name negative n =
-    where_broken (not (is_c_name name)) (rule.G7, token text)
-    ++ (where_broken (not (is_in_range negative n)) (rule.G22, token text)
-    ++ value_rows before text name)
+constant_rows before text name negative n = number_rows text name negative n ++ value_rows before text name
 
 -- the rules of a token of a format's line or a pattern's, behind those before it; an argument has a C name, and bits at
 -- their place are some
 abbrev pub element_rows : Bool → ℕ → Scope → Gathered → List ℕ → Element → List Broken
 element_rows in_format width scope before text (set_named name) = set_rows scope.sets before text name
-element_rows in_format width scope before text (format_named name) = format_rows in_format scope.formats before text name
+element_rows in_format width scope before text (format_named name) =
+    format_rows in_format scope.formats before text name
 element_rows in_format width scope before text (constant name negative n) = constant_rows before text name negative n
 element_rows in_format width scope before text (field_named name field) = field_rows scope.fields before text name field
 element_rows in_format width scope before text (bits bs) = bits_rows width before text bs

@@ -3,10 +3,10 @@ use Rattle.std.specs.Prelude.{◌≤◌, List, All}
 use Rattle.dt_fields.specs.Segments.{segment_end}
 use Rattle.dt_fields.specs.Tables.{FieldTable}
 use Rattle.dt_fields.specs.declared.field.FieldDef.{FieldDef}
-use Rattle.dt_scope.specs.Patterns.{GivenValues}
-use Rattle.dt_scope.specs.declared.form.Format.{Format}
-use Rattle.dt_scope.specs.declared.value.FieldValue.{FieldValue}
-use Rattle.dt_scope.specs.declared.value.FieldValue.TheVariants.{Field, Constant}
+use Rattle.dt_model.specs.Patterns.{GivenValues}
+use Rattle.dt_model.specs.declared.format.Format.{Format}
+use Rattle.dt_model.specs.declared.value.FieldValue.{FieldValue}
+use Rattle.dt_model.specs.declared.value.FieldValue.TheVariants.{Field, Constant}
 
 abbrev pub FieldFits : FieldDef → Type 0
 FieldFits field = All (λ s. segment_end s ≤ 64) field.segments

@@ -2,7 +2,7 @@
 use Rattle.std.specs.Prelude.{ℕ, Bool, List, Option, nat_eq, find, is_some}
 use Rattle.std.specs.List.{position}
 use Rattle.std.specs.Cmp.Lexicographic.{pointwise}
-use Rattle.dt_scope.specs.declared.form.Format.{Format}
+use Rattle.dt_model.specs.declared.format.Format.{Format}
 
 -- the format of this name
 abbrev pub format_at : List Format → List ℕ → Option Format

@@ -8,8 +8,8 @@ use Rattle.dt_fields.specs.declared.segment.Segment.TheVariants as segment
 use Rattle.dt_scope.specs.Elements.{Element, set_named, format_named, constant, field_named, bits, in_place, other}
 use Rattle.dt_scope.specs.Elements.{element_of, signed_number}
 use Rattle.dt_scope.specs.declared.gather.Gathered.{Gathered}
-use Rattle.dt_scope.specs.declared.value.FieldValue.{FieldValue}
-use Rattle.dt_scope.specs.declared.value.FieldValue.TheVariants.{Field, Constant}
+use Rattle.dt_model.specs.declared.value.FieldValue.{FieldValue}
+use Rattle.dt_model.specs.declared.value.FieldValue.TheVariants.{Field, Constant}
 
 abbrev pub nothing_given : Gathered
 nothing_given = record { set = None; format = None; digits = []; values = [] }

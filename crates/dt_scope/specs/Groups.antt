@@ -5,7 +5,7 @@ use Rattle.dt_scope.specs.declared.kind.Kind.{Kind}
 use Rattle.dt_scope.specs.declared.kind.Opening.{Opening}
 use Rattle.dt_scope.specs.declared.groups.Open.{Open}
 use Rattle.dt_scope.specs.declared.groups.Groups.{Groups}
-use Rattle.dt_scope.specs.Trees.{items_of}
+use Rattle.dt_model.specs.Trees.{items_of}
 use Rattle.dt_scope.specs.Marks.{Mark, opens, spelled}
 
 -- the open groups, the outermost first

@@ -1,9 +1,6 @@
-pub mod Options
 pub mod Bits
-pub mod Patterns
 pub mod FormatsByName
 pub mod Names
-pub mod Trees
 pub mod Marks
 pub mod Groups
 pub mod Scope
@@ -12,3 +9,4 @@ pub mod Elements
 pub mod ElementView
 pub mod Gathering
 pub mod ElementRows
+pub mod ReadTokens

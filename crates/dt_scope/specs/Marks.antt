@@ -3,7 +3,12 @@
 use Rattle.std.specs.Prelude.{ℕ, List, [], ◌∷◌, ◌++◌}
 use Rattle.dt_scope.specs.declared.kind.Kind.{Kind}
 use Rattle.dt_scope.specs.declared.kind.Kind.TheVariants.{Brace, Bracket}
-use Rattle.dt_scope.specs.Trees.{Item, one, overlap, exclusive, Cluster, cluster, Items, no_item, item, grouped}
+use Rattle.dt_model.specs.Trees.{Item, one, overlap, exclusive, Cluster, cluster, Items, no_item, item}
+
+-- a group of this kind
+abbrev pub grouped : Kind → ℕ → ℕ → Items → Item
+grouped Brace file line is = overlap (cluster file line is)
+grouped Bracket file line is = exclusive (cluster file line is)
 
 -- a line opens a group, in its file and at its number; closes one; or is the pattern of this number
 pub data Mark : Type 0 where

@@ -5,7 +5,7 @@ ghost use Rattle.dt_values.specs.Widths.{width_bits};
 ghost use Rattle.dt_scope.specs.Bits.{AreBitsBelow, bits_at_top, bits_of, bits_with_format, fixed_digit, ignored_digit};
 ghost use Rattle.dt_scope.specs.Bits.{is_partial, one_digit, with_digit, with_digits};
 
-use crate::form::Format;
+use dt_model::Format;
 use dt_values::Width;
 
 /// What the digits of a line say: how many there are, the value of the bits that they fix, and the masks of the

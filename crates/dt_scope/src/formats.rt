@@ -4,7 +4,7 @@ ghost use Rattle.std.specs.Prelude.{◌≡◌, ◌++◌, ◌∷◌, [], None, If
 ghost use Rattle.std.specs.Option.{option_copied};
 ghost use Rattle.dt_scope.specs.FormatsByName.{format_at, is_format, place_of_format};
 
-use crate::form::Format;
+use dt_model::Format;
 use dt_values::Name;
 use indexmap::IndexMap;
 use std::alloc::{AllocError, Global};
@@ -20,7 +20,7 @@ impl Model for Formats {
     ghost use Rattle.std.specs.Prelude.{List};
     ghost use Rattle.std.specs.Map.{values_of};
     ghost use Rattle.dt_fields.specs.Keys.{Keyed};
-    ghost use Rattle.dt_scope.specs.declared.form.Format.{Format};
+    ghost use Rattle.dt_model.specs.declared.format.Format.{Format};
 
     ghost Value = { List Format };
 

@@ -9,20 +9,21 @@ ghost use Rattle.dt_fields.specs.Numbers.{decimal};
 ghost use Rattle.dt_fields.specs.View.{DefBroken};
 ghost use Rattle.dt_fields.specs.declared.number.TheConstants.{LARGEST_NUMBER};
 ghost use Rattle.dt_scope.specs.ElementRows.{IsSmall, bits_rows, constant_rows, element_faults, element_rows, field_rows};
-ghost use Rattle.dt_scope.specs.ElementRows.{format_rows, has_value, is_in_range, place_rows, set_rows, value_rows};
+ghost use Rattle.dt_scope.specs.ElementRows.{format_rows, has_value, is_in_range, number_rows, place_rows, set_rows, value_rows};
 ghost use Rattle.dt_scope.specs.Elements.{element_of, constant, field_named, format_named, set_named, signed_number};
 ghost use Rattle.dt_scope.specs.Fitting.{ValueFits};
-ghost use Rattle.dt_scope.specs.declared.value.FieldValue.TheVariants.{Constant};
+ghost use Rattle.dt_model.specs.declared.value.FieldValue.TheVariants.{Constant};
+ghost use Rattle.dt_scope.specs.ReadTokens.{bits_of, text_of};
 ghost use Rattle.dt_scope.specs.Gathering.{field_at, gathered, given, nothing_given, placed, with_bits, with_dots, with_value};
 
 use crate::digits::Digits;
 use crate::element::{Element, element_of};
 use crate::scope::Scope;
-use crate::value::{FieldValue, ValueList};
 use dt_fields::number::{c_name, number_of};
-use dt_fields::{DefFault, Detail, FieldDef, MOST_ARGUMENTS, Rule, Segment, Segments, refuse};
+use dt_fields::{DefFault, Detail, FieldDef, Rule, Segment, Segments, refuse};
 use dt_lines::Span;
-use dt_values::{Name, Width};
+use dt_model::{FieldValue, ValueList};
+use dt_values::{MOST_ARGUMENTS, Name, Width};
 use std::alloc::{AllocError, Global};
 
 /// What the tokens of a format or pattern line give it: the names of its set and of its format, its bits, and what its
@@ -33,6 +34,15 @@ pub struct Gathered {
     pub format: Option<Name>,
     pub digits: Digits,
     pub values: ValueList,
+}
+
+/// A token that is read: the width of words, what the lines before its own define, the bytes of its file, and the token.
+#[derive(Clone, Copy)]
+pub struct ReadToken<'a> {
+    pub width: Width,
+    pub scope: &'a Scope,
+    pub source: &'a [u8],
+    pub token: Span,
 }
 
 /// What these tokens of a format's line, or else a pattern's, give it.
@@ -61,15 +71,13 @@ pub fn gather(
         values: ValueList::of(Vec::new(alloc)),
     };
     for token in tokens {
-        read_element(
-            alloc,
-            in_format,
+        let read = ReadToken {
             width,
             scope,
-            &mut gathered,
             source,
-            *token,
-        )?;
+            token: *token,
+        };
+        read_element(alloc, in_format, read, &mut gathered)?;
     }
     Ok(gathered)
 }
@@ -78,65 +86,51 @@ pub fn gather(
 fn read_element(
     alloc: Global,
     in_format: bool,
-    width: Width,
-    scope: &Scope,
+    read: ReadToken,
     gathered: &mut Gathered,
-    source: &[u8],
-    token: Span,
 ) -> Result<(), DefFault>
-    requires within { IsWithin (length source.now) token }
-    requires small { IsSmall (width_bits width) gathered.old }
-    ensures given { OnOk result (gathered.new ≡ given (width_bits width) scope.now.fields gathered.old
-        (element_of (text_at source.now token))) }
-    ensures small { OnOk result (IsSmall (width_bits width) gathered.new) }
-    ensures kept { OnOk result (element_rows in_format (width_bits width) scope.now gathered.old
-        (text_at source.now token) (element_of (text_at source.now token)) ≡ []) }
-    ensures broken { IfErr result (λ fault. DefBroken source.now fault (element_rows in_format (width_bits width)
-        scope.now gathered.old (text_at source.now token) (element_of (text_at source.now token)))) }
+    requires within { IsWithin (length read.source.now) read.token }
+    requires small { IsSmall (bits_of read) gathered.old }
+    ensures given { OnOk result (gathered.new ≡ given (bits_of read.entry) read.entry.scope.now.fields gathered.old
+        (element_of (text_of read.entry))) }
+    ensures small { OnOk result (IsSmall (bits_of read.entry) gathered.new) }
+    ensures kept { OnOk result (element_rows in_format (bits_of read.entry) read.entry.scope.now gathered.old
+        (text_of read.entry) (element_of (text_of read.entry)) ≡ []) }
+    ensures broken { IfErr result (λ fault. DefBroken read.entry.source.now fault (element_rows in_format (bits_of read.entry)
+        read.entry.scope.now gathered.old (text_of read.entry) (element_of (text_of read.entry)))) }
 {
-    match element_of(token.text(source)) {
-        Element::Set(name) => read_set(width, scope, gathered, source, token, name),
-        Element::Format(name) => {
-            read_format(in_format, width, scope, gathered, source, token, name)
-        }
+    match element_of(read.token.text(read.source)) {
+        Element::Set(name) => read_set(read, gathered, name),
+        Element::Format(name) => { read_format(in_format, read, gathered, name) }
         Element::Constant(name, negative, digits) => {
-            read_constant(width, gathered, source, token, name, negative, digits)
+            read_constant(read, gathered, name, negative, digits)
         }
-        Element::Field(name, field) => {
-            read_field(alloc, width, scope, gathered, source, token, name, field)
-        }
-        Element::Bits(bits) => read_bits(width, gathered, source, token, bits),
+        Element::Field(name, field) => { read_field(alloc, read, gathered, name, field) }
+        Element::Bits(bits) => read_bits(read, gathered, bits),
         Element::InPlace(name, digits, signed) => read_in_place(
-            alloc, width, gathered, source, token, name, digits, signed,
+            alloc, read, gathered, name, digits, signed,
         ),
-        Element::Other => Err(DefFault::Broken(Rule::G7, Detail::Text(token))),
+        Element::Other => Err(DefFault::Broken(Rule::G7, Detail::Text(read.token))),
     }
 }
 
 // A set.
-fn read_set(
-    width: Width,
-    scope: &Scope,
-    gathered: &mut Gathered,
-    source: &[u8],
-    token: Span,
-    name: Name,
-) -> Result<(), DefFault>
-    requires within { IsWithin (length source.now) token }
-    requires small { IsSmall (width_bits width) gathered.old }
+fn read_set(read: ReadToken, gathered: &mut Gathered, name: Name) -> Result<(), DefFault>
+    requires within { IsWithin (length read.source.now) read.token }
+    requires small { IsSmall (bits_of read) gathered.old }
     ensures given { OnOk result
-        (gathered.new ≡ given (width_bits width) scope.now.fields gathered.old (set_named name)) }
-    ensures small { OnOk result (IsSmall (width_bits width) gathered.new) }
+        (gathered.new ≡ given (bits_of read.entry) read.entry.scope.now.fields gathered.old (set_named name)) }
+    ensures small { OnOk result (IsSmall (bits_of read.entry) gathered.new) }
     ensures kept { OnOk result
-        (set_rows scope.now.sets gathered.old (text_at source.now token) name ≡ []) }
-    ensures broken { IfErr result (λ fault. DefBroken source.now fault
-        (set_rows scope.now.sets gathered.old (text_at source.now token) name)) }
+        (set_rows read.entry.scope.now.sets gathered.old (text_of read.entry) name ≡ []) }
+    ensures broken { IfErr result (λ fault. DefBroken read.entry.source.now fault
+        (set_rows read.entry.scope.now.sets gathered.old (text_of read.entry) name)) }
 {
-    refuse(gathered.set.is_some(), Rule::G1, Detail::Text(token))?;
+    refuse(gathered.set.is_some(), Rule::G1, Detail::Text(read.token))?;
     refuse(
-        scope.sets().get(name).is_none(),
+        read.scope.sets().get(name).is_none(),
         Rule::G2,
-        Detail::Text(token),
+        Detail::Text(read.token),
     )?;
     gathered.set = Some(name);
     Ok(())
@@ -145,66 +139,71 @@ fn read_set(
 // A format.
 fn read_format(
     in_format: bool,
-    width: Width,
-    scope: &Scope,
+    read: ReadToken,
     gathered: &mut Gathered,
-    source: &[u8],
-    token: Span,
     name: Name,
 ) -> Result<(), DefFault>
-    requires within { IsWithin (length source.now) token }
-    requires small { IsSmall (width_bits width) gathered.old }
+    requires within { IsWithin (length read.source.now) read.token }
+    requires small { IsSmall (bits_of read) gathered.old }
     ensures given { OnOk result
-        (gathered.new ≡ given (width_bits width) scope.now.fields gathered.old (format_named name)) }
-    ensures small { OnOk result (IsSmall (width_bits width) gathered.new) }
+        (gathered.new ≡ given (bits_of read.entry) read.entry.scope.now.fields gathered.old (format_named name)) }
+    ensures small { OnOk result (IsSmall (bits_of read.entry) gathered.new) }
     ensures kept { OnOk result
-        (format_rows in_format scope.now.formats gathered.old (text_at source.now token) name ≡ []) }
-    ensures broken { IfErr result (λ fault. DefBroken source.now fault
-        (format_rows in_format scope.now.formats gathered.old (text_at source.now token) name)) }
+        (format_rows in_format read.entry.scope.now.formats gathered.old (text_of read.entry) name ≡ []) }
+    ensures broken { IfErr result (λ fault. DefBroken read.entry.source.now fault
+        (format_rows in_format read.entry.scope.now.formats gathered.old (text_of read.entry) name)) }
 {
     let is_second = gathered.format.is_some();
-    let is_undefined = !scope.formats().has(&name);
-    refuse(in_format, Rule::G10, Detail::Text(token))?;
-    refuse(is_second, Rule::G3, Detail::Text(token))?;
-    refuse(is_undefined, Rule::G4, Detail::Text(token))?;
+    let is_undefined = !read.scope.formats().has(&name);
+    refuse(in_format, Rule::G10, Detail::Text(read.token))?;
+    refuse(is_second, Rule::G3, Detail::Text(read.token))?;
+    refuse(is_undefined, Rule::G4, Detail::Text(read.token))?;
     gathered.format = Some(name);
     Ok(())
 }
 
-// An argument with a constant, whose number may be cut off.
+// An argument with a constant.
+#[tactic(auto, using(dt_fields::proofs::FirstFaults::broken_prefix))]
 fn read_constant(
-    width: Width,
+    read: ReadToken,
     gathered: &mut Gathered,
-    source: &[u8],
-    token: Span,
     name: Name,
     negative: bool,
     digits: &[u8],
 ) -> Result<(), DefFault>
-    requires within { IsWithin (length source.now) token }
-    requires small { IsSmall (width_bits width) gathered.old }
+    requires within { IsWithin (length read.source.now) read.token }
+    requires small { IsSmall (bits_of read) gathered.old }
     requires digits { IsTrue (list_all is_ascii_digit digits.now) }
     ensures given { OnOk result
         (gathered.new ≡ with_value gathered.old name (Constant (signed_number negative (decimal digits.now)))) }
-    ensures small { OnOk result (IsSmall (width_bits width) gathered.new) }
+    ensures small { OnOk result (IsSmall (bits_of read.entry) gathered.new) }
     ensures kept { OnOk result
-        (constant_rows gathered.old (text_at source.now token) name negative (decimal digits.now) ≡ []) }
-    ensures broken { IfErr result (λ fault. DefBroken source.now fault
-        (constant_rows gathered.old (text_at source.now token) name negative (decimal digits.now))) }
+        (constant_rows gathered.old (text_of read.entry) name negative (decimal digits.now) ≡ []) }
+    ensures broken { IfErr result (λ fault. DefBroken read.entry.source.now fault
+        (constant_rows gathered.old (text_of read.entry) name negative (decimal digits.now))) }
+{
+    match constant_of(read, name, negative, digits) {
+        Err(fault) => Err(fault),
+        Ok(value) => give(read, gathered, name, FieldValue::Constant(value)),
+    }
+}
+
+// The number of a constant, which may be cut off where it is out of range.
+fn constant_of(read: ReadToken, name: Name, negative: bool, digits: &[u8]) -> Result<i64, DefFault>
+    requires within { IsWithin (length read.source.now) read.token }
+    requires digits { IsTrue (list_all is_ascii_digit digits.now) }
+    ensures number { IfOk result (λ z. z ≡ signed_number negative (decimal digits.now)) }
+    ensures kept { OnOk result
+        (number_rows (text_of read.entry) name negative (decimal digits.now) ≡ []) }
+    ensures broken { IfErr result (λ fault. DefBroken read.entry.source.now fault
+        (number_rows (text_of read.entry) name negative (decimal digits.now))) }
 {
     let number = number_of(digits);
-    refuse(
-        c_name(name.bytes()).is_none(),
-        Rule::G7,
-        Detail::Text(token),
-    )?;
-    refuse(
-        !is_in_range(negative, number),
-        Rule::G22,
-        Detail::Text(token),
-    )?;
-    let value = FieldValue::Constant(signed_number(negative, number));
-    give(width, gathered, source, token, name, value)
+    let is_invalid = c_name(name.bytes()).is_none();
+    refuse(is_invalid, Rule::G7, Detail::Text(read.token))?;
+    let is_outside = !is_in_range(negative, number);
+    refuse(is_outside, Rule::G22, Detail::Text(read.token))?;
+    Ok(signed_number(negative, number))
 }
 
 // Whether a constant of this sign and number is from -2^31 to 2^32 - 1.
@@ -230,64 +229,48 @@ fn signed_number(negative: bool, number: u64) -> i64
 // An argument with a field.
 fn read_field(
     alloc: Global,
-    width: Width,
-    scope: &Scope,
+    read: ReadToken,
     gathered: &mut Gathered,
-    source: &[u8],
-    token: Span,
     name: Name,
     field: Name,
 ) -> Result<(), DefFault>
-    requires within { IsWithin (length source.now) token }
-    requires small { IsSmall (width_bits width) gathered.old }
+    requires within { IsWithin (length read.source.now) read.token }
+    requires small { IsSmall (bits_of read) gathered.old }
     ensures given { OnOk result
-        (gathered.new ≡ given (width_bits width) scope.now.fields gathered.old (field_named name field)) }
-    ensures small { OnOk result (IsSmall (width_bits width) gathered.new) }
+        (gathered.new ≡ given (bits_of read.entry) read.entry.scope.now.fields gathered.old (field_named name field)) }
+    ensures small { OnOk result (IsSmall (bits_of read.entry) gathered.new) }
     ensures kept { OnOk result
-        (field_rows scope.now.fields gathered.old (text_at source.now token) name field ≡ []) }
-    ensures broken { IfErr result (λ fault. DefBroken source.now fault
-        (field_rows scope.now.fields gathered.old (text_at source.now token) name field)) }
+        (field_rows read.entry.scope.now.fields gathered.old (text_of read.entry) name field ≡ []) }
+    ensures broken { IfErr result (λ fault. DefBroken read.entry.source.now fault
+        (field_rows read.entry.scope.now.fields gathered.old (text_of read.entry) name field)) }
 {
     refuse(
         c_name(name.bytes()).is_none(),
         Rule::G7,
-        Detail::Text(token),
+        Detail::Text(read.token),
     )?;
-    let Some(field) = scope.field(field) else {
-        return Err(DefFault::Broken(Rule::G6, Detail::Text(token)));
+    let Some(field) = read.scope.field(field) else {
+        return Err(DefFault::Broken(Rule::G6, Detail::Text(read.token)));
     };
     match field.copied(alloc) {
         Err(_) => Err(DefFault::NoMemory),
-        Ok(field) => give(
-            width,
-            gathered,
-            source,
-            token,
-            name,
-            FieldValue::Field(field),
-        ),
+        Ok(field) => give(read, gathered, name, FieldValue::Field(field)),
     }
 }
 
 // Bits as they are written.
-fn read_bits(
-    width: Width,
-    gathered: &mut Gathered,
-    source: &[u8],
-    token: Span,
-    written: &[u8],
-) -> Result<(), DefFault>
-    requires within { IsWithin (length source.now) token }
-    requires small { IsSmall (width_bits width) gathered.old }
+fn read_bits(read: ReadToken, gathered: &mut Gathered, written: &[u8]) -> Result<(), DefFault>
+    requires within { IsWithin (length read.source.now) read.token }
+    requires small { IsSmall (bits_of read) gathered.old }
     ensures given { OnOk result (gathered.new ≡ with_bits gathered.old written.now) }
-    ensures small { OnOk result (IsSmall (width_bits width) gathered.new) }
+    ensures small { OnOk result (IsSmall (bits_of read.entry) gathered.new) }
     ensures kept { OnOk result
-        (bits_rows (width_bits width) gathered.old (text_at source.now token) written.now ≡ []) }
-    ensures broken { IfErr result (λ fault. DefBroken source.now fault
-        (bits_rows (width_bits width) gathered.old (text_at source.now token) written.now)) }
+        (bits_rows (bits_of read.entry) gathered.old (text_of read.entry) written.now ≡ []) }
+    ensures broken { IfErr result (λ fault. DefBroken read.entry.source.now fault
+        (bits_rows (bits_of read.entry) gathered.old (text_of read.entry) written.now)) }
 {
-    let room = width.bits() as usize - gathered.digits.items().len();
-    refuse(written.len() > room, Rule::G8, Detail::Text(token))?;
+    let room = read.width.bits() as usize - gathered.digits.items().len();
+    refuse(written.len() > room, Rule::G8, Detail::Text(read.token))?;
     match gathered.digits.extend(written) {
         Err(_) => Err(DefFault::NoMemory),
         Ok(()) => Ok(()),
@@ -298,101 +281,78 @@ fn read_bits(
 #[tactic(auto, using(dt_fields::proofs::FirstFaults::broken_prefix))]
 fn read_in_place(
     alloc: Global,
-    width: Width,
+    read: ReadToken,
     gathered: &mut Gathered,
-    source: &[u8],
-    token: Span,
     name: Name,
     digits: &[u8],
     signed: bool,
 ) -> Result<(), DefFault>
-    requires within { IsWithin (length source.now) token }
-    requires small { IsSmall (width_bits width) gathered.old }
+    requires within { IsWithin (length read.source.now) read.token }
+    requires small { IsSmall (bits_of read) gathered.old }
     requires digits { IsTrue (list_all is_ascii_digit digits.now) }
     ensures given { OnOk result
-        (gathered.new ≡ placed (width_bits width) gathered.old name (decimal digits.now) signed) }
-    ensures small { OnOk result (IsSmall (width_bits width) gathered.new) }
-    ensures kept { let text = text_at source.now token in OnOk result
-        (place_rows (width_bits width) gathered.old text name (decimal digits.now) ++ value_rows gathered.old text name
+        (gathered.new ≡ placed (bits_of read.entry) gathered.old name (decimal digits.now) signed) }
+    ensures small { OnOk result (IsSmall (bits_of read.entry) gathered.new) }
+    ensures kept { let text = text_of read.entry in OnOk result
+        (place_rows (bits_of read.entry) gathered.old text name (decimal digits.now) ++ value_rows gathered.old text name
         ≡ []) }
-    ensures broken { let text = text_at source.now token in IfErr result (λ fault. DefBroken source.now fault
-        (place_rows (width_bits width) gathered.old text name (decimal digits.now)
+    ensures broken { let text = text_of read.entry in IfErr result (λ fault. DefBroken read.entry.source.now fault
+        (place_rows (bits_of read.entry) gathered.old text name (decimal digits.now)
         ++ value_rows gathered.old text name)) }
 {
     let count = number_of(digits);
-    match check_place(width, gathered, source, token, name, count) {
+    match check_place(read, gathered, name, count) {
         Err(fault) => Err(fault),
-        Ok(()) => push_place(
-            alloc,
-            width,
-            gathered,
-            source,
-            token,
-            name,
-            count as u8,
-            signed,
-        ),
+        Ok(()) => push_place(alloc, read, gathered, name, count as u8, signed),
     }
 }
 
 // Refuses bits that can't stand at their place. Their number may be cut off.
-fn check_place(
-    width: Width,
-    before: &Gathered,
-    source: &[u8],
-    token: Span,
-    name: Name,
-    count: u64,
-) -> Result<(), DefFault>
-    requires within { IsWithin (length source.now) token }
-    requires small { IsSmall (width_bits width) before.now }
+fn check_place(read: ReadToken, before: &Gathered, name: Name, count: u64) -> Result<(), DefFault>
+    requires within { IsWithin (length read.source.now) read.token }
+    requires small { IsSmall (bits_of read) before.now }
     requires cut { count ≤ LARGEST_NUMBER }
-    ensures room { OnOk result (length before.now.digits + count ≤ width_bits width) }
+    ensures room { OnOk result (length before.now.digits + count ≤ bits_of read.entry) }
     ensures kept { (len : ℕ) → count ≡ min len LARGEST_NUMBER → OnOk result
-        (place_rows (width_bits width) before.now (text_at source.now token) name len ≡ []) }
-    ensures broken { (len : ℕ) → count ≡ min len LARGEST_NUMBER → IfErr result (λ fault. DefBroken source.now fault
-        (place_rows (width_bits width) before.now (text_at source.now token) name len)) }
+        (place_rows (bits_of read.entry) before.now (text_of read.entry) name len ≡ []) }
+    ensures broken { (len : ℕ) → count ≡ min len LARGEST_NUMBER → IfErr result (λ fault. DefBroken read.entry.source.now fault
+        (place_rows (bits_of read.entry) before.now (text_of read.entry) name len)) }
 {
     let is_invalid = c_name(name.bytes()).is_none() || count == 0;
     let end = before.digits.items().len() as u64 + count;
-    refuse(is_invalid, Rule::G7, Detail::Text(token))?;
-    refuse(end > width.bits() as u64, Rule::G8, Detail::Text(token))?;
+    refuse(is_invalid, Rule::G7, Detail::Text(read.token))?;
+    refuse(
+        end > read.width.bits() as u64,
+        Rule::G8,
+        Detail::Text(read.token),
+    )?;
     Ok(())
 }
 
 // Gives an argument the bits at its place.
 fn push_place(
     alloc: Global,
-    width: Width,
+    read: ReadToken,
     gathered: &mut Gathered,
-    source: &[u8],
-    token: Span,
     name: Name,
     count: u8,
     signed: bool,
 ) -> Result<(), DefFault>
-    requires within { IsWithin (length source.now) token }
-    requires small { IsSmall (width_bits width) gathered.old }
-    requires room { length gathered.old.digits + count ≤ width_bits width }
-    ensures given { OnOk result (gathered.new ≡ placed (width_bits width) gathered.old name count signed) }
-    ensures small { OnOk result (IsSmall (width_bits width) gathered.new) }
-    ensures kept { OnOk result (value_rows gathered.old (text_at source.now token) name ≡ []) }
+    requires within { IsWithin (length read.source.now) read.token }
+    requires small { IsSmall (bits_of read) gathered.old }
+    requires room { length gathered.old.digits + count ≤ bits_of read }
+    ensures given { OnOk result (gathered.new ≡ placed (bits_of read.entry) gathered.old name count signed) }
+    ensures small { OnOk result (IsSmall (bits_of read.entry) gathered.new) }
+    ensures kept { OnOk result (value_rows gathered.old (text_of read.entry) name ≡ []) }
     ensures broken { IfErr result
-        (λ fault. DefBroken source.now fault (value_rows gathered.old (text_at source.now token) name)) }
+        (λ fault. DefBroken read.entry.source.now fault (value_rows gathered.old (text_of read.entry) name)) }
 {
     let before = gathered.digits.items().len();
-    let field = match field_at(alloc, width, before, count, signed) {
+    let field = match field_at(alloc, read.width, before, count, signed) {
         Err(_) => return Err(DefFault::NoMemory),
         Ok(field) => field,
     };
-    match give(
-        width,
-        gathered,
-        source,
-        token,
-        name,
-        FieldValue::Field(field),
-    ) {
+    match give(read, gathered, name, FieldValue::Field(field)) {
         Err(fault) => Err(fault),
         Ok(()) => match extend_field(gathered, count) {
             Err(_) => Err(DefFault::NoMemory),
@@ -434,26 +394,24 @@ fn extend_field(gathered: &mut Gathered, count: u8) -> Result<(), AllocError>
 // Gives an argument its value.
 #[tactic(auto, using(crate::proofs::Fits::values_more))]
 fn give(
-    width: Width,
+    read: ReadToken,
     gathered: &mut Gathered,
-    source: &[u8],
-    token: Span,
     name: Name,
     value: FieldValue,
 ) -> Result<(), DefFault>
-    requires within { IsWithin (length source.now) token }
-    requires small { IsSmall (width_bits width) gathered.old }
+    requires within { IsWithin (length read.source.now) read.token }
+    requires small { IsSmall (bits_of read) gathered.old }
     requires fits { ValueFits value }
     ensures given { OnOk result (gathered.new ≡ with_value gathered.old name value) }
-    ensures small { OnOk result (IsSmall (width_bits width) gathered.new) }
-    ensures kept { OnOk result (value_rows gathered.old (text_at source.now token) name ≡ []) }
+    ensures small { OnOk result (IsSmall (bits_of read.entry) gathered.new) }
+    ensures kept { OnOk result (value_rows gathered.old (text_of read.entry) name ≡ []) }
     ensures broken { IfErr result
-        (λ fault. DefBroken source.now fault (value_rows gathered.old (text_at source.now token) name)) }
+        (λ fault. DefBroken read.entry.source.now fault (value_rows gathered.old (text_of read.entry) name)) }
 {
     let is_given = has_value(gathered.values.items(), &name);
     let is_past_last = gathered.values.items().len() >= MOST_ARGUMENTS;
-    refuse(is_given, Rule::G5, Detail::Text(token))?;
-    refuse(is_past_last, Rule::A5, Detail::Text(token))?;
+    refuse(is_given, Rule::G5, Detail::Text(read.token))?;
+    refuse(is_past_last, Rule::A5, Detail::Text(read.token))?;
     match gathered.values.push((name, value)) {
         Ok(()) => Ok(()),
         Err(_) => Err(DefFault::NoMemory),

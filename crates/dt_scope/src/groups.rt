@@ -2,11 +2,11 @@
 
 ghost use Rattle.std.specs.Prelude.{◌≡◌, ◌++◌, ◌-◌, ◌∷◌, [], Some, length, take, OnOk};
 ghost use Rattle.dt_scope.specs.Groups.{innermost, innermost_kind, openings_of, spelled_so_far};
-ghost use Rattle.dt_scope.specs.Marks.{closes, opens, pattern_mark, spelled};
-ghost use Rattle.dt_scope.specs.Trees.{grouped, item_of, items_of};
+ghost use Rattle.dt_scope.specs.Marks.{closes, opens, pattern_mark, spelled, grouped};
+ghost use Rattle.dt_model.specs.Trees.{item_of, items_of};
 
-use crate::entry::{Entry, Group};
 use crate::kind::{Kind, Opening};
+use dt_model::{Entry, Group};
 use std::alloc::{AllocError, Global};
 use std::mem::replace;
 

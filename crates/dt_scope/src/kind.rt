@@ -8,7 +8,7 @@ pub enum Kind {
 }
 
 /// Where a group opens: its kind, the place of its file among all files, from 0, and its line.
-#[derive(Clone, Copy, PartialEq, Eq)]
+#[derive(Clone, Copy)]
 pub struct Opening {
     pub kind: Kind,
     pub file: u16,

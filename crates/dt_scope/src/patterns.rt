@@ -6,7 +6,7 @@ ghost use Rattle.dt_values.specs.Types.{is_text};
 ghost use Rattle.dt_scope.specs.Names.{IsSetOf};
 ghost use Rattle.dt_scope.specs.Scope.{pattern_names};
 
-use crate::form::Pattern;
+use dt_model::Pattern;
 use dt_values::Name;
 use indexmap::IndexSet;
 use std::alloc::{AllocError, Global};
@@ -24,7 +24,7 @@ impl Model for Patterns {
     ghost use Rattle.std.specs.Prelude.{◌≡◌, List};
     ghost use Rattle.dt_scope.specs.Names.{IsSetOf};
     ghost use Rattle.dt_scope.specs.Scope.{pattern_names};
-    ghost use Rattle.dt_scope.specs.declared.form.Pattern.{Pattern};
+    ghost use Rattle.dt_model.specs.declared.pattern.Pattern.{Pattern};
 
     ghost Value = { List Pattern };
 

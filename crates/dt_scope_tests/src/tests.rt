@@ -4,14 +4,13 @@ ghost use Rattle.std.specs.Prelude.{◌≡◌, IfOk, length, []};
 ghost use Rattle.dt_lines.specs.Spans.{AreSpans};
 ghost use Rattle.dt_scope.specs.Scope.{nothing_defined};
 
-use dt_fields::{DefFault, Detail, MemberList, Rule, Segment, SetDef};
+use dt_fields::{DefFault, Detail, Rule, Segment};
 use dt_lines::scan::logical;
 use dt_lines::{LARGEST_FILE, Logical, Span};
+use dt_model::{FieldValue, Format, Pattern, ValueList};
 use dt_scope::gather::{Gathered, gather, has_value};
-use dt_scope::{
-    Bits, Digits, FieldValue, Format, Formats, Pattern, Patterns, Scope, ValueList, all_bits,
-};
-use dt_values::{Name, Width};
+use dt_scope::{Bits, Digits, Formats, Patterns, Scope, all_bits};
+use dt_values::{MemberList, Name, SetDef, Width};
 use std::alloc::Global;
 use std::process::Abort;
 use std::test::Fail;

@@ -5,6 +5,7 @@ use Rattle.std.specs.Prelude.{Vec, IfOk, IfSome}
 use Rattle.dt_io.specs.Files.{Files}
 use Rattle.dt_io.specs.Folders.{FolderSeen}
 use Rattle.dt_tool.specs.Inputs.{Input, Unread, too_large, inputs_of, texts_in}
+use Rattle.dt_tool.specs.declared.refusal.Refusal.TheVariants as refusal
 use Rattle.dt_tool.specs.Messages as said
 use Rattle.dt_tool.specs.Stops.{AnswersTask, AreLoaded, IsTextOf, MakesDue, StopsTask, StopsLoading}
 use Rattle.dt_tool.specs.Tasks.{Task, Due, refused, written, IsDue, IsDueOfInputs, IsDueOfTexts}
@@ -69,7 +70,7 @@ module _ (task : Task) where
   made A before after texts (Err stops.NoMemory) loaded due besides = tt
 
   -- what stops the reading is due
-  large_known : (known : Option Files) (file message : List ℕ) → message ≡ said.too_large file
+  large_known : (known : Option Files) (file message : List ℕ) → message ≡ said.refusal_message refusal.K0 (Some file)
       → IfSome known (λ files. texts_in task.limit (inputs_of files task.names) ≡ Err (too_large file))
       → IfSome known (λ files. IsDue task files (refused message))
   large_known None file message is h = tt

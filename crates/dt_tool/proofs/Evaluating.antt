@@ -3,7 +3,7 @@ use Rattle.std.proofs.Common.{◌≡◌, ℕ, Bool, cond, List, [], ◌∷◌, m
 use Rattle.std.specs.Prelude.{◌||◌, not, nat_eq, find, IfOk, IsErrOf, Vec}
 use Rattle.std.specs.Cmp.Lexicographic.{pointwise}
 use Rattle.std.specs.List.{list_any}
-use Rattle.dt_fields.specs.declared.set.SetDef.{SetDef}
+use Rattle.dt_values.specs.declared.set.SetDef.{SetDef}
 use Rattle.c_tokens.specs.Before.{tokens_before}
 use Rattle.c_tokens.specs.Depth.{IsTooDeep}
 use Rattle.c_subset.specs.Programs.{Pattern, Program}

@@ -1,8 +1,8 @@
 -- Exactly one thing is due.
 use Rattle.std.proofs.Common.{◌≡◌, ℕ, List, [], get_or, Result, Ok, Err, refl, ap, sym, ◌∙◌}
 use Rattle.dt_io.specs.Files.{Files}
-use Rattle.dt_scope.specs.declared.options.Options.{Options}
-use Rattle.dt_tree.proofs.OneVerdict.{one_verdict, some_verdict}
+use Rattle.dt_model.specs.declared.options.Options.{Options}
+use Rattle.dt_verdict.proofs.OneVerdict.{one_verdict, some_verdict}
 use Rattle.c_subset.proofs.OneReading.{one_reading, some_reading}
 use Rattle.dt_tool.specs.Due.{Asked, due_of_verdict, IsDueOfFiles, gen_task}
 use Rattle.dt_tool.specs.Evaluations.{Evaluation, due_of_reading, IsDueOfCText, eval_task}

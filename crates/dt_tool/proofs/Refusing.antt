@@ -10,19 +10,19 @@ use Rattle.dt_forms.specs.declared.fault.Fault.{Fault as Reported}
 use Rattle.dt_forms.specs.declared.fault.ModelFault.{ModelFault}
 use Rattle.dt_forms.specs.declared.fault.ModelFault.TheVariants as faults
 use Rattle.dt_forms.specs.FileFaults.{fault_in_file, fault_of_files, file_fault, first_broken}
-use Rattle.dt_scope.specs.declared.options.Options.{Options}
-use Rattle.dt_forms.specs.declared.model.Model.{Model}
+use Rattle.dt_model.specs.declared.options.Options.{Options}
+use Rattle.dt_model.specs.declared.model.Model.{Model}
 use Rattle.dt_forms.specs.Models.{IsModelOf, entries_in_files, flat_list}
-use Rattle.dt_scope.specs.Trees.{Items, items_of}
-use Rattle.dt_scope.specs.Patterns.{FlatPattern}
+use Rattle.dt_model.specs.Trees.{Items, items_of}
+use Rattle.dt_model.specs.Patterns.{FlatPattern}
 use Rattle.dt_fields.specs.Faults.{Detail, nothing}
 use Rattle.dt_forms.specs.Rules.{Fault, first_fault}
 use Rattle.dt_fields.specs.View.{IsDetailWithin, detail_seen}
 use Rattle.dt_forms.specs.View.{FileBroken, fault_seen}
 use Rattle.dt_tree.specs.Entries.{patterns_of}
 use Rattle.dt_tree.specs.Refusals.{KeepGroupRules}
-use Rattle.dt_tree.specs.Verdicts.{kept, broken, empty_group, overlapping}
-use Rattle.dt_tree.proofs.Readings.{model_entries}
+use Rattle.dt_verdict.specs.Verdicts.{kept, broken, empty_group, overlapping}
+use Rattle.dt_forms.proofs.Readings.{model_entries}
 use Rattle.dt_tool.specs.Due.{text_of, IsDueOfFiles}
 use Rattle.dt_tool.specs.Tasks.{refused, written}
 use Rattle.dt_tool.specs.Messages as said

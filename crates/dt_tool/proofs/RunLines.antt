@@ -6,8 +6,8 @@ use Rattle.std.proofs.Math.Seq.{take-append_seam}
 use Rattle.dt_text.specs.Puts.{State, Puts}
 use Rattle.dt_text.proofs.Putting.{puts_more}
 use Rattle.dt_values.specs.declared.ctype.Member.{Member}
-use Rattle.dt_match.specs.Hosts.{Answer, Call}
-use Rattle.dt_match.specs.Scripts.{kept_call}
+use Rattle.dt_host.specs.Hosts.{Answer, Call}
+use Rattle.dt_host.specs.Scripts.{kept_call}
 use Rattle.c_subset.specs.Programs.{Program}
 use Rattle.c_eval.specs.Runs.{Ended, Run}
 use Rattle.dt_tool.specs.RunTexts.{argument_text, arguments_text, call_line, end_lines, loaded_text, number_line, run_lines, run_with}

@@ -1,7 +1,7 @@
 -- Texts that decode what files say (docs/LANGUAGE.md).
 use Rattle.std.specs.Prelude.{ℕ, List}
 use Rattle.dt_forms.specs.Models.{definitions_of, trial_list}
-use Rattle.dt_scope.specs.declared.options.Options.{Options}
+use Rattle.dt_model.specs.declared.options.Options.{Options}
 use Rattle.c_writer.specs.Decoders.{IsDecoder}
 use Rattle.c_writer.specs.Uses.{outside_sets}
 

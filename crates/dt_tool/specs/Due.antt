@@ -3,8 +3,8 @@ use Rattle.std.specs.Prelude.{ℕ, ◌≡◌, List, Option}
 use Rattle.dt_fields.specs.declared.rule.Rule.TheVariants as rule
 use Rattle.dt_forms.specs.Models.{definitions_of}
 use Rattle.dt_lines.specs.declared.limits.TheConstants.{LARGEST_FILE}
-use Rattle.dt_scope.specs.declared.options.Options.{Options}
-use Rattle.dt_tree.specs.Verdicts.{Verdict, kept, broken, empty_group, overlapping, IsVerdict}
+use Rattle.dt_model.specs.declared.options.Options.{Options}
+use Rattle.dt_verdict.specs.Verdicts.{Verdict, kept, broken, empty_group, overlapping, IsVerdict}
 use Rattle.c_writer.specs.Layout.{layout}
 use Rattle.c_writer.specs.Parts.{parts_of}
 use Rattle.dt_tool.specs.Decoders.{IsDecoderOf}

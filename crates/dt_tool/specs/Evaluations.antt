@@ -1,13 +1,14 @@
 -- What is due for `eval` over a C text, whatever the outside does (docs/COMMANDS.md, "Outcomes" and "Rules").
 use Rattle.std.specs.Prelude.{ℕ, ◌≡◌, ◌^◌, Bool, not, nat_lt, List, [], ◌∷◌, get_or, map, Option, Some, None}
 use Rattle.std.specs.Prelude.{find, if◌then◌else◌}
-use Rattle.dt_fields.specs.declared.set.SetDef.{SetDef}
+use Rattle.dt_values.specs.declared.set.SetDef.{SetDef}
 use Rattle.std.specs.List.{list_any}
-use Rattle.dt_match.specs.Hosts.{Answer}
+use Rattle.dt_host.specs.Hosts.{Answer}
 use Rattle.dt_values.specs.Types.{is_text}
 use Rattle.dt_values.specs.Widths.{width_bits}
 use Rattle.c_subset.specs.Programs.{Name, Pattern, Program}
 use Rattle.c_subset.specs.Readings.{Reading, too_deep, not_subset, of_program, IsReading}
+use Rattle.dt_tool.specs.declared.refusal.Refusal.TheVariants as refusal
 use Rattle.dt_tool.specs.Messages as said
 use Rattle.dt_tool.specs.RunTexts.{run_text}
 use Rattle.dt_tool.specs.Tasks.{Due, refused, written, Task}
@@ -39,18 +40,18 @@ abbrev pub due_of_word : Evaluation → Program → Due
 due_of_word e program =
     if nat_lt e.word (2 ^ width_bits program.width)
     then written (run_text e.outcomes e.answers program e.word)
-    else refused (said.word_too_wide e.given)
+    else refused (said.refusal_message refusal.E1 (Some e.given))
 
 abbrev pub due_of_program : Evaluation → Program → Due
 due_of_program e program = unless_undeclared (undeclared_set program)
   where
     unless_undeclared : Option Name → Due
     unless_undeclared None = due_of_word e program
-    unless_undeclared (Some set) = refused (said.undeclared_set set)
+    unless_undeclared (Some set) = refused (said.refusal_message refusal.E2 (Some set))
 
 abbrev pub due_of_reading : Evaluation → Reading → Due
-due_of_reading e too_deep = refused said.too_deep
-due_of_reading e not_subset = refused said.not_in_subset
+due_of_reading e too_deep = refused (said.refusal_message refusal.C2 None)
+due_of_reading e not_subset = refused (said.refusal_message refusal.C1 None)
 due_of_reading e (of_program program) = due_of_program e program
 
 -- what is due for this C text

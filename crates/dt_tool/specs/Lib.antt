@@ -1,3 +1,4 @@
+pub mod RefusalTexts
 pub mod Messages
 pub mod Inputs
 pub mod Tasks

@@ -12,6 +12,8 @@ use Rattle.dt_fields.specs.declared.rule.Rule.TheVariants as rule
 use Rattle.dt_forms.specs.Positions.{first_token_at}
 use Rattle.dt_fields.specs.Faults.{Detail, nothing, token, named, number, mask}
 use Rattle.dt_forms.specs.Rules.{Fault}
+use Rattle.dt_tool.specs.RefusalTexts.{refusal_text}
+use Rattle.dt_tool.specs.declared.refusal.Refusal.{Refusal}
 use Rattle.dt_words.specs.PrintedWords.{usage_code, printed_word}
 use Rattle.dt_words.specs.declared.usage.Usage.{Usage}
 
@@ -37,31 +39,26 @@ cannot_write = codes "error: cannot write\n"
 abbrev pub no_memory : List ℕ
 no_memory = codes "error: no memory\n"
 
--- a line about a file, a name or a word
+-- a line about a file
 abbrev pub line_about : List ℕ → List ℕ → List ℕ
-line_about prefix what = pieces_text (text prefix ∷ text what ∷ text (codes "\n") ∷ [])
+line_about prefix file = pieces_text (text prefix ∷ text file ∷ text (codes "\n") ∷ [])
 
 abbrev pub cannot_read : List ℕ → List ℕ
 cannot_read file = line_about (codes "error: cannot read ") file
 
-abbrev pub too_large : List ℕ → List ℕ
-too_large file = line_about (codes "error: K0 file too large: ") file
-
-abbrev pub too_deep : List ℕ
-too_deep = codes "error: C2 too deep\n"
-
-abbrev pub not_in_subset : List ℕ
-not_in_subset = codes "error: C1 not in the subset\n"
-
-abbrev pub undeclared_set : List ℕ → List ℕ
-undeclared_set set = line_about (codes "error: E2 undeclared set: ") set
-
-abbrev pub word_too_wide : List ℕ → List ℕ
-word_too_wide word = line_about (codes "error: E1 word too wide: ") word
-
 -- the bytes of a token or a name, a number in decimal, the bits of a mask in a hexadecimal digit for each four
 abbrev pub bytes_text : List ℕ → List ℕ
 bytes_text bytes = pieces_text (text (codes ": ") ∷ text bytes ∷ [])
+
+-- the detail of a refusal, if it has one
+abbrev pub about : Option (List ℕ) → List ℕ
+about None = []
+about (Some detail) = bytes_text detail
+
+-- what is said of a refusal
+abbrev pub refusal_message : Refusal → Option (List ℕ) → List ℕ
+refusal_message refusal detail =
+    pieces_text (text (codes "error: ") ∷ text (refusal_text refusal) ∷ []) ++ (about detail ++ line_end)
 
 abbrev pub number_text : ℕ → List ℕ
 number_text n = pieces_text (text (codes ": ") ∷ name (decimal n) ∷ [])

@@ -5,7 +5,7 @@ use Rattle.dt_io.specs.Files.{Files, with_file}
 use Rattle.dt_io.specs.Folders.{FolderSeen, ChangeFailed, IsOnlyRead, ReadFailed}
 use Rattle.dt_io.specs.Outputs.{LeavesPart}
 use Rattle.dt_io.specs.Sinks.{SinkSeen, IsOnlyWritten, Reports, WriteFailed}
-use Rattle.dt_match.specs.Scripts.{answer_seen}
+use Rattle.dt_host.specs.Scripts.{answer_seen}
 use Rattle.dt_words.specs.declared.command.Command.{Command}
 use Rattle.dt_words.specs.declared.command.Command.TheVariants as command
 use Rattle.dt_words.specs.declared.usage.Usage.{Usage}

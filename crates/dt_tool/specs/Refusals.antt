@@ -1,22 +1,23 @@
 -- How a refusal names what the inputs break: a fault of a file or a line, an empty group, or a knot (docs/COMMANDS.md,
 -- "Rules").
-use Rattle.std.specs.Prelude.{ℕ, ◌≡◌, ◌⊎◌, List, Option, Some}
+use Rattle.std.specs.Prelude.{ℕ, ◌≡◌, ◌⊎◌, List, Option, Some, None}
 use Rattle.dt_values.specs.declared.width.Width.{Width}
 use Rattle.dt_lines.specs.declared.line.Position.{Position}
 use Rattle.dt_forms.specs.declared.fault.ModelFault.{ModelFault}
 use Rattle.dt_forms.specs.declared.fault.ModelFault.TheVariants as faults
 use Rattle.dt_forms.specs.declared.source.Source.{Source}
-use Rattle.dt_scope.specs.Patterns.{FlatPattern}
+use Rattle.dt_model.specs.Patterns.{FlatPattern}
 use Rattle.dt_forms.specs.Rules.{Fault}
 use Rattle.dt_fields.specs.View.{IsDetailWithin}
 use Rattle.dt_fields.specs.declared.rule.Rule.TheVariants as rule
 use Rattle.dt_forms.specs.View.{fault_seen, text_of_file}
-use Rattle.dt_scope.specs.Trees.{Items}
+use Rattle.dt_model.specs.Trees.{Items}
 use Rattle.dt_tree.specs.EmptyGroups.{IsLeastEmpty}
 use Rattle.dt_tree.specs.Refusals.{ShowsFirstKnot}
 use Rattle.c_subset.specs.declared.fault.CFault.{CFault}
 use Rattle.c_subset.specs.declared.fault.CFault.TheVariants as cfaults
 use Rattle.dt_tool.specs.Tasks.{refused}
+use Rattle.dt_tool.specs.declared.refusal.Refusal.TheVariants as refusal
 use Rattle.dt_tool.specs.Messages as said
 use Rattle.dt_tool.specs.Stops.{Refuses}
 use Rattle.dt_tool.specs.declared.stop.Stop.{Stop}
@@ -68,6 +69,6 @@ RefusesEntries stops.NoMemory names texts ps items = Unit {0}
 
 -- what is said of a C text that no program is read of
 abbrev pub SaysUnreadText : CFault → Stop → Type 0
-SaysUnreadText cfaults.TooDeep stop = SaysThis stop said.too_deep
-SaysUnreadText cfaults.NotSubset stop = SaysThis stop said.not_in_subset
+SaysUnreadText cfaults.TooDeep stop = SaysThis stop (said.refusal_message refusal.C2 None)
+SaysUnreadText cfaults.NotSubset stop = SaysThis stop (said.refusal_message refusal.C1 None)
 SaysUnreadText cfaults.NoMemory stop = stop ≡ stops.NoMemory

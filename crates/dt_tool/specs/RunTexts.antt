@@ -8,7 +8,7 @@ use Rattle.dt_text.specs.Pieces.{text, name, pieces_text}
 use Rattle.dt_values.specs.Types.{is_text}
 use Rattle.dt_values.specs.Widths.{width_bits}
 use Rattle.dt_values.specs.declared.ctype.Member.{Member}
-use Rattle.dt_match.specs.Hosts.{Answer, Call, script}
+use Rattle.dt_host.specs.Hosts.{Answer, Call, script}
 use Rattle.c_subset.specs.Programs.{Name, Pattern, Program}
 use Rattle.c_eval.specs.Lists.{members_at}
 use Rattle.c_eval.specs.Loads.{load_of}

@@ -1,9 +1,10 @@
 -- What comes of the files that are read: a text, or what stops on the way to it.
-use Rattle.std.specs.Prelude.{ℕ, ◌≡◌, ◌<◌, ◌≤◌, ◌⊎◌, List, length, take, All, Option, Result, Ok, Err, IfSome, IsOk}
+use Rattle.std.specs.Prelude.{ℕ, ◌≡◌, ◌<◌, ◌≤◌, ◌⊎◌, List, length, take, All, Option, Some, Result, Ok, Err, IfSome, IsOk}
 use Rattle.std.specs.Prelude.{Vec}
 use Rattle.dt_io.specs.Files.{Files, Held, NotHeld}
 use Rattle.dt_io.specs.Folders.{FolderSeen, Missed, ReadFailed}
 use Rattle.dt_tool.specs.Inputs.{Input, missing, too_large, inputs_of, texts_in, AreSomeInputs}
+use Rattle.dt_tool.specs.declared.refusal.Refusal.TheVariants as refusal
 use Rattle.dt_tool.specs.Messages as said
 use Rattle.dt_tool.specs.Tasks.{Due, refused, written, Task, IsDue, IsDueOfInputs}
 use Rattle.dt_tool.specs.declared.stop.Stop.{Stop}
@@ -82,7 +83,7 @@ pub record SaysUnreadFile (before after : FolderSeen) (file message : List ℕ) 
 abbrev pub StopsLoad : ℕ → FolderSeen → FolderSeen → List ℕ → Stop → Type 0
 StopsLoad limit before after file (stops.ReadFault message) = SaysUnreadFile before after file message.items
 StopsLoad limit before after file (stops.Refused message) =
-    (message.items ≡ said.too_large file) × Held before.files file (λ held. limit < length held)
+    (message.items ≡ said.refusal_message refusal.K0 (Some file)) × Held before.files file (λ held. limit < length held)
 StopsLoad limit before after file stops.NoMemory = Unit {0}
 
 -- these are the texts of the files of these names
@@ -99,7 +100,7 @@ pub record SaysTooLarge (limit : ℕ) (known : Option Files) (names : List (List
   pub named : place < length names
   pub stops : IfSome known (λ files.
       texts_in limit (inputs_of files names) ≡ Err (too_large (said.name_at names place)))
-  pub said : message ≡ said.too_large (said.name_at names place)
+  pub said : message ≡ said.refusal_message refusal.K0 (Some (said.name_at names place))
 
 -- why not all of the files were loaded
 abbrev pub StopsLoading : ℕ → FolderSeen → FolderSeen → List (List ℕ) → Stop → Type 0

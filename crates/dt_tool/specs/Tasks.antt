@@ -1,8 +1,9 @@
 -- What a command is asked to do with files that it reads, and what is due for it (docs/COMMANDS.md, "Outcomes").
-use Rattle.std.specs.Prelude.{ℕ, ◌≡◌, List, Option, Result, Ok, Err}
+use Rattle.std.specs.Prelude.{ℕ, ◌≡◌, List, Option, Some, Result, Ok, Err}
 use Rattle.dt_io.specs.Files.{Files}
 use Rattle.dt_tool.specs.Inputs as inputs
 use Rattle.dt_tool.specs.Inputs.{Input, Unread, inputs_of, texts_in}
+use Rattle.dt_tool.specs.declared.refusal.Refusal.TheVariants as refusal
 use Rattle.dt_tool.specs.Messages as said
 
 -- the input of this name isn't held; a rule is broken, and this is said; this text is written
@@ -23,7 +24,7 @@ pub record Task : Type 1 where
 -- what is due where the reading stops
 abbrev pub due_of_unread : Unread → Due
 due_of_unread (inputs.missing name) = missing name
-due_of_unread (inputs.too_large name) = refused (said.too_large name)
+due_of_unread (inputs.too_large name) = refused (said.refusal_message refusal.K0 (Some name))
 
 -- all files are read before a text is looked at
 abbrev pub IsDueOfTexts : Task → Result (List (List ℕ)) Unread → Due → Type 0

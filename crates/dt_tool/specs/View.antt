@@ -1,8 +1,8 @@
 -- What the code's values stand for.
 use Rattle.std.specs.Prelude.{ℕ, List, Vec, map, take}
-use Rattle.dt_match.specs.Hosts.{Call as Called}
-use Rattle.dt_match.specs.Scripts.{answer_seen}
-use Rattle.dt_match.specs.declared.script.Call.{Call}
+use Rattle.dt_host.specs.Hosts.{Call as Called}
+use Rattle.dt_host.specs.Scripts.{answer_seen}
+use Rattle.dt_host.specs.declared.script.Call.{Call}
 use Rattle.dt_tool.specs.Due.{Asked}
 use Rattle.dt_tool.specs.Evaluations.{Evaluation}
 use Rattle.dt_tool.specs.Messages as said

@@ -1,6 +1,6 @@
 //! From the file that holds a C text to what is written of its run at a word, with all that stops it on the way.
 
-ghost use Rattle.std.specs.Prelude.{◌≡◌, ℕ, ◌<◌, ◌^◌, nat_eq, nat_lt, not, List, find, map, IfOk};
+ghost use Rattle.std.specs.Prelude.{◌≡◌, ℕ, ◌<◌, ◌^◌, nat_eq, nat_lt, not, List, Some, find, map, IfOk};
 ghost use Rattle.std.specs.Cmp.Lexicographic.{pointwise};
 ghost use Rattle.std.specs.HashSet.{contains};
 ghost use Rattle.dt_io.specs.Folders.{IsOnlyRead};
@@ -8,21 +8,21 @@ ghost use Rattle.c_subset.specs.Keeps.{KeepsRules};
 ghost use Rattle.c_subset.specs.Sites.{statements_in};
 ghost use Rattle.c_subset.specs.View.{program_of};
 ghost use Rattle.dt_values.specs.Widths.{width_bits};
-ghost use Rattle.dt_tool.specs.Evaluations.{IsDueOfCText, due_of_program, due_of_word, eval_task};
-ghost use Rattle.dt_tool.specs.Evaluations.{undeclared_set};
-ghost use Rattle.dt_tool.specs.Refusals.{SaysUnreadText};
+ghost use Rattle.dt_tool.specs.Evaluations.{IsDueOfCText, due_of_program, due_of_word, eval_task, undeclared_set};
+ghost use Rattle.dt_tool.specs.Messages as said;
+ghost use Rattle.dt_tool.specs.Refusals.{SaysThis, SaysUnreadText};
+ghost use Rattle.dt_tool.specs.declared.refusal.Refusal.TheVariants as refusal;
 ghost use Rattle.dt_tool.specs.Stops.{AnswersTask, MakesDue};
 ghost use Rattle.dt_tool.specs.View.{evaluation_seen};
 
 use crate::inputs::load;
-use crate::messages;
+use crate::refusal::Refusal;
 use crate::request::Evaluation;
 use crate::run_text::run_text;
-use crate::stop::{Stop, refusal};
+use crate::stop::{Stop, refuse};
 use c_subset::{CFault, Program, read_c};
-use dt_fields::SetDef;
 use dt_io::Folder;
-use dt_values::{Name, Width};
+use dt_values::{Name, SetDef, Width};
 use std::alloc::{AllocError, Global};
 use std::collections::HashSet;
 
@@ -58,8 +58,8 @@ fn stop_of_text(alloc: Global, fault: CFault) -> Stop
     ensures { SaysUnreadText fault result }
 {
     match fault {
-        CFault::TooDeep => refusal(messages::too_deep(alloc)),
-        CFault::NotSubset => refusal(messages::not_in_subset(alloc)),
+        CFault::TooDeep => refuse(alloc, Refusal::C2, None),
+        CFault::NotSubset => refuse(alloc, Refusal::C1, None),
         CFault::NoMemory => Stop::NoMemory,
     }
 }
@@ -72,9 +72,16 @@ fn evaluate_program(alloc: Global, request: Evaluation, program: &Program) -> Re
 {
     match undeclared_set(alloc, program) {
         Ok(None) => evaluate_word(alloc, request, program),
-        Ok(Some(set)) => Err(refusal(messages::undeclared_set(alloc, &set))),
+        Ok(Some(set)) => Err(refuse_set(alloc, &set)),
         Err(_) => Err(Stop::NoMemory),
     }
+}
+
+// What is said of a set that isn't declared.
+fn refuse_set(alloc: Global, set: &Name) -> Stop
+    ensures { SaysThis result (said.refusal_message refusal.E2 (Some set.now)) }
+{
+    refuse(alloc, Refusal::E2, Some(set.as_str()))
 }
 
 // The same of a program whose patterns have declared sets.
@@ -84,7 +91,7 @@ fn evaluate_word(alloc: Global, request: Evaluation, program: &Program) -> Resul
     ensures { MakesDue result (λ what. due_of_word (evaluation_seen request.entry) (program_of program.now) ≡ what) }
 {
     if !is_word(program.width, request.word) {
-        return Err(refusal(messages::word_too_wide(alloc, request.given)));
+        return Err(refuse(alloc, Refusal::E1, Some(request.given)));
     }
     match run_text(alloc, request, program) {
         Ok(text) => Ok(text),

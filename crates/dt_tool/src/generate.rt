@@ -1,15 +1,14 @@
 //! From the files that the words name to the C text, with all that stops it on the way.
 
-ghost use Rattle.std.specs.Prelude.{◌≡◌, ◌≤◌, List, All, None, length};
-ghost use Rattle.std.specs.Prelude.{IfErr, IfOk, OnOk};
+ghost use Rattle.std.specs.Prelude.{◌≡◌, ◌≤◌, List, All, None, length, IfErr, IfOk, OnOk};
 ghost use Rattle.dt_io.specs.Folders.{IsOnlyRead};
 ghost use Rattle.dt_forms.specs.Models.{IsModelOf};
-ghost use Rattle.dt_scope.specs.Options.{IsOptions};
+ghost use Rattle.dt_model.specs.Options.{IsOptions};
 ghost use Rattle.dt_forms.specs.Rules.{first_fault};
-ghost use Rattle.dt_forms.specs.Sound.{IsSound};
+ghost use Rattle.dt_model.specs.Sound.{IsSound};
 ghost use Rattle.dt_forms.specs.Sources.{AreSources};
-ghost use Rattle.dt_scope.specs.Patterns.{FlatPattern};
-ghost use Rattle.dt_scope.specs.Trees.{Items, items_of};
+ghost use Rattle.dt_model.specs.Patterns.{FlatPattern};
+ghost use Rattle.dt_model.specs.Trees.{Items, items_of};
 ghost use Rattle.dt_forms.specs.View.{texts_of};
 ghost use Rattle.dt_tree.specs.Entries.{AreInOrder, patterns_of};
 ghost use Rattle.dt_tree.specs.Refusals.{KeepGroupRules, IsRefused};
@@ -27,9 +26,10 @@ use crate::request::Request;
 use crate::stop::{Stop, refusal, stop_of};
 use c_writer::text::text;
 use dt_fields::Rule;
-use dt_forms::{MOST_FILES, Model, Options, read_model};
+use dt_forms::read_model;
 use dt_io::Folder;
 use dt_lines::{LARGEST_FILE, Position};
+use dt_model::{MOST_FILES, Model, Options};
 use dt_tree::{Tree, TreeFault};
 use dt_words::Text;
 use std::alloc::Global;

@@ -12,10 +12,12 @@ ghost use Rattle.dt_tool.specs.View.{contents};
 
 use crate::messages;
 use crate::messages::Inputs;
-use crate::stop::{Stop, read_fault, refusal, stop_of};
-use dt_forms::{MOST_FILES, Source};
+use crate::refusal::Refusal;
+use crate::stop::{Stop, read_fault, refuse, stop_of};
+use dt_forms::Source;
 use dt_io::{Folder, LoadFault, read_all};
 use dt_lines::LARGEST_FILE;
+use dt_model::MOST_FILES;
 use dt_values::Width;
 use dt_words::Text;
 use std::alloc::Global;
@@ -62,7 +64,7 @@ pub fn load<D: Folder>(
         Err(LoadFault::Missing | LoadFault::Failed) => {
             Err(read_fault(messages::cannot_read(alloc, name)))
         }
-        Err(LoadFault::TooLarge) => Err(refusal(messages::too_large(alloc, name))),
+        Err(LoadFault::TooLarge) => Err(refuse(alloc, Refusal::K0, Some(name))),
         Err(LoadFault::NoMemory) => Err(Stop::NoMemory),
     }
 }

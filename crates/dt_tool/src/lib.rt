@@ -6,6 +6,7 @@ pub mod generate;
 pub mod inputs;
 pub mod laws;
 pub mod messages;
+pub mod refusal;
 pub mod request;
 pub mod run;
 pub mod run_text;
@@ -13,4 +14,5 @@ pub mod status;
 pub mod stop;
 pub mod tool;
 
+pub use refusal::Refusal;
 pub use status::{Outcome, Status};

@@ -9,11 +9,12 @@ ghost use Rattle.dt_forms.specs.View.{fault_seen, text_of_file, texts_of};
 ghost use Rattle.dt_tool.specs.Messages as said;
 ghost use Rattle.dt_words.specs.View.{value_seen};
 
+use crate::refusal::Refusal;
 use dt_fields::{Detail, Rule};
 use dt_forms::{Fault, Source, first_token};
 use dt_lines::Position;
 use dt_text::{GrowingSink, Out, Part, write_parts};
-use dt_values::{Name, Width};
+use dt_values::Width;
 use dt_words::{Text, Usage, printed_word};
 use std::alloc::{AllocError, Global};
 
@@ -58,54 +59,42 @@ pub fn cannot_read(alloc: Global, file: &str) -> Result<Vec<u8>, AllocError>
     line_about(alloc, b"error: cannot read ", file)
 }
 
-/// What is said of a file over its limit.
-pub fn too_large(alloc: Global, file: &str) -> Result<Vec<u8>, AllocError>
-    ensures { IfOk result (λ text. text.items ≡ said.too_large file.now) }
-{
-    line_about(alloc, b"error: K0 file too large: ", file)
-}
-
-/// What is said of a C text that nests too deep.
-pub fn too_deep(alloc: Global) -> Result<Vec<u8>, AllocError>
-    ensures { IfOk result (λ text. text.items ≡ said.too_deep) }
-{
-    Vec::from_slice(alloc, b"error: C2 too deep\n")
-}
-
-/// What is said of a text that isn't in the subset.
-pub fn not_in_subset(alloc: Global) -> Result<Vec<u8>, AllocError>
-    ensures { IfOk result (λ text. text.items ≡ said.not_in_subset) }
-{
-    Vec::from_slice(alloc, b"error: C1 not in the subset\n")
-}
-
-/// What is said of a set that a C text doesn't declare.
-pub fn undeclared_set(alloc: Global, set: &Name) -> Result<Vec<u8>, AllocError>
-    ensures { IfOk result (λ text. text.items ≡ said.undeclared_set set.now) }
-{
-    line_about(alloc, b"error: E2 undeclared set: ", set.as_str())
-}
-
-/// What is said of a word that has more bits than those of a C text.
-pub fn word_too_wide(alloc: Global, word: &str) -> Result<Vec<u8>, AllocError>
-    ensures { IfOk result (λ text. text.items ≡ said.word_too_wide word.now) }
-{
-    line_about(alloc, b"error: E1 word too wide: ", word)
-}
-
-// A line about a file, a name or a word.
-fn line_about<'a>(alloc: Global, prefix: &'a [u8], name: &'a str) -> Result<Vec<u8>, AllocError>
-    ensures { IfOk result (λ text. text.items ≡ said.line_about prefix.now name.now) }
+// A line about a file.
+fn line_about<'a>(alloc: Global, prefix: &'a [u8], file: &'a str) -> Result<Vec<u8>, AllocError>
+    ensures { IfOk result (λ text. text.items ≡ said.line_about prefix.now file.now) }
 {
     let mut out = GrowingSink::new(alloc);
     write_parts(
         &mut out,
         &[
             Part::Text(prefix),
-            Part::Text(name.as_bytes()),
+            Part::Text(file.as_bytes()),
             Part::Text(b"\n"),
         ],
     );
+    out.into_text()
+}
+
+/// What is said of a refusal, with its detail if it has one.
+pub fn refusal_message(
+    alloc: Global,
+    refusal: Refusal,
+    detail: Option<&str>,
+) -> Result<Vec<u8>, AllocError>
+    ensures { IfOk result (λ text. text.items ≡ said.refusal_message refusal (value_seen detail.entry)) }
+{
+    let mut out = GrowingSink::new(alloc);
+    write_parts(
+        &mut out,
+        &[
+            Part::Text(b"error: "),
+            Part::Text(refusal.text().as_bytes()),
+        ],
+    );
+    if let Some(detail) = detail {
+        write_bytes(&mut out, detail.as_bytes());
+    }
+    write_line_end(&mut out);
     out.into_text()
 }
 

@@ -1,7 +1,7 @@
 //! What the commands are asked for.
 
-use dt_forms::Options;
-use dt_match::Answer;
+use dt_host::Answer;
+use dt_model::Options;
 use dt_words::Text;
 
 /// What `gen` is asked for: with these options, of these pattern files, for standard output or the file of this name.

@@ -2,8 +2,8 @@
 
 ghost use Rattle.std.specs.Prelude.{◌≡◌, ◌≢◌, ◌≤◌, IsSome, OnErr, OnOk, length};
 ghost use Rattle.dt_io.specs.Sinks.{Reports};
-ghost use Rattle.dt_scope.specs.Options.{IsOptions};
-ghost use Rattle.dt_words.specs.declared.rows.TheConstants.{MOST_FILES};
+ghost use Rattle.dt_model.specs.Options.{IsOptions};
+ghost use Rattle.dt_model.specs.declared.limits.TheConstants.{MOST_FILES};
 ghost use Rattle.dt_tool.specs.Delivery.{Delivers};
 ghost use Rattle.dt_tool.specs.Due.{gen_task};
 ghost use Rattle.dt_tool.specs.Evaluations.{eval_task};

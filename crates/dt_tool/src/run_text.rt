@@ -1,7 +1,7 @@
 //! What is written of the run of a C text.
 
 ghost use Rattle.std.specs.Prelude.{◌≡◌, ◌<◌, ◌≤◌, ◌^◌, [], flat_map, map, option_map, take, unwrap_or, IfOk};
-ghost use Rattle.dt_match.specs.Scripts.{answer_seen};
+ghost use Rattle.dt_host.specs.Scripts.{answer_seen};
 ghost use Rattle.dt_text.specs.Puts.{Puts};
 ghost use Rattle.dt_values.specs.Widths.{width_bits};
 ghost use Rattle.c_eval.specs.Lists.{members_at};
@@ -17,11 +17,9 @@ use crate::request::Evaluation;
 use c_eval::run_laws::law_script_run;
 use c_eval::{Bytes, Ended, run_decode, run_load};
 use c_subset::{Program, call_sites};
-use dt_fields::SetDef;
-use dt_match::Script;
-use dt_match::script::Call;
+use dt_host::{Call, Script};
 use dt_text::{GrowingSink, Out, Part, write_parts};
-use dt_values::{Member, Name, Width};
+use dt_values::{Member, Name, SetDef, Width};
 use itoa::Buffer;
 use std::alloc::{AllocError, Global};
 

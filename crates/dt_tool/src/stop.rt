@@ -1,10 +1,13 @@
 //! Why there is no text.
 
 ghost use Rattle.std.specs.Prelude.{◌≡◌, MatchResult};
-ghost use Rattle.dt_tool.specs.Refusals.{IsFaultWithin, SaysFault};
+ghost use Rattle.dt_tool.specs.Refusals.{IsFaultWithin, SaysFault, SaysThis};
+ghost use Rattle.dt_tool.specs.Messages as said;
+ghost use Rattle.dt_words.specs.View.{value_seen};
 
 use crate::messages;
 use crate::messages::Inputs;
+use crate::refusal::Refusal;
 use dt_forms::ModelFault;
 use std::alloc::{AllocError, Global};
 use thiserror::Error;
@@ -32,6 +35,13 @@ pub fn stop_of(alloc: Global, inputs: Inputs, fault: ModelFault) -> Stop
         ModelFault::Broken(fault) => refusal(messages::fault_message(alloc, inputs, &fault)),
         ModelFault::NoMemory => Stop::NoMemory,
     }
+}
+
+/// A refusal with its detail, if it has one.
+pub fn refuse(alloc: Global, refused: Refusal, detail: Option<&str>) -> Stop
+    ensures { SaysThis result (said.refusal_message refused (value_seen detail.entry)) }
+{
+    refusal(messages::refusal_message(alloc, refused, detail))
 }
 
 /// A refusal, if there is memory for its message.

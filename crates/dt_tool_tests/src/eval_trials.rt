@@ -1,11 +1,13 @@
 //! From a pattern file by `gen` to `eval`: the calls that are listed are those of trying the model's patterns.
 ghost use Rattle.std.specs.Prelude.{◌≤◌, IfOk, length};
-ghost use Rattle.dt_forms.specs.Sound.{IsSound};
-ghost use Rattle.dt_scope.specs.Options.{IsOptions};
+ghost use Rattle.dt_model.specs.Sound.{IsSound};
+ghost use Rattle.dt_model.specs.Options.{IsOptions};
 
 use crate::runs::{NOTHING_FAILS, Ran, run};
-use dt_forms::{Model, Options, Source, read_model};
-use dt_match::{Answer, Call, Script, trial};
+use dt_forms::{Source, read_model};
+use dt_host::{Answer, Call, Script};
+use dt_match::trial;
+use dt_model::{Model, Options};
 use dt_values::{Member, Name, Width};
 use itoa::Buffer;
 use std::alloc::{AllocError, Global};

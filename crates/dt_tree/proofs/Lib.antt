@@ -20,6 +20,4 @@ pub mod Matching
 pub mod Joins
 pub mod WholeWords
 pub mod SomeFirstKnot
-pub mod Readings
-pub mod FileEntries
-pub mod OneVerdict
+pub mod KnotOrNone

@@ -2,7 +2,6 @@ pub mod Entries
 pub mod EmptyGroups
 pub mod Knots
 pub mod Refusals
-pub mod Verdicts
 pub mod PatternKnots
 pub mod Splits
 pub mod Commons

@@ -1,15 +1,15 @@
 //! What all patterns below an entry fix alike.
 
 ghost use Rattle.std.specs.Prelude.{◌≡◌, ◌++◌, List, map};
-ghost use Rattle.dt_forms.specs.View.{pattern_seen};
-ghost use Rattle.dt_scope.specs.Patterns.{FlatPattern};
-ghost use Rattle.dt_scope.specs.Trees.{item_of, items_of, numbers_of};
+ghost use Rattle.dt_model.specs.View.{pattern_seen};
+ghost use Rattle.dt_model.specs.Patterns.{FlatPattern};
+ghost use Rattle.dt_model.specs.Trees.{item_of, items_of, numbers_of};
 ghost use Rattle.dt_tree.specs.Commons.{IsCommon, IsCommonOf, IsFilled};
 ghost use Rattle.dt_tree.specs.Entries.{below, pattern_at};
 ghost use Rattle.dt_tree.specs.Splits.{fixed_seen};
 
 use crate::fixed::{FixedBits, fixed_by_both};
-use dt_forms::{Entry, Pattern};
+use dt_model::{Entry, Pattern};
 
 // What the pattern of this number fixes: nothing, where there is none.
 fn fixed_by_pattern(patterns: &[Pattern], number: u32) -> FixedBits

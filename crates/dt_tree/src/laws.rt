@@ -1,20 +1,16 @@
-//! Laws of knots and verdicts: public functions whose contracts are the laws, and whose bodies are empty.
+//! Laws of knots: public functions whose contracts are the laws, and whose bodies are empty.
 
 ghost use Rattle.std.specs.Prelude.{◌≡◌, ◌<◌, ◌↔◌, ◌⊎◌, ℕ, List, [], ◌++◌, length, map, All, AllPairs, Contains};
 ghost use Rattle.dt_lines.specs.declared.line.Position.{Position};
-ghost use Rattle.dt_scope.specs.declared.form.Pattern.{Pattern};
-ghost use Rattle.dt_scope.specs.declared.options.Options.{Options};
-ghost use Rattle.dt_scope.specs.Patterns.{FlatPattern, Matches};
-ghost use Rattle.dt_scope.specs.Trees.{Items, items_of};
-ghost use Rattle.dt_forms.specs.declared.model.Model.{Model};
-ghost use Rattle.dt_forms.specs.Models.{IsModelOf, entries_in_files};
-ghost use Rattle.dt_forms.specs.Sound.{IsEarlier, positions_of};
-ghost use Rattle.dt_forms.specs.View.{pattern_seen};
+ghost use Rattle.dt_model.specs.declared.pattern.Pattern.{Pattern};
+ghost use Rattle.dt_model.specs.Patterns.{FlatPattern, Matches};
+ghost use Rattle.dt_model.specs.Trees.{Items};
+ghost use Rattle.dt_model.specs.Sound.{IsEarlier, positions_of};
+ghost use Rattle.dt_model.specs.View.{pattern_seen};
 ghost use Rattle.dt_tree.specs.Entries.{exclusive_lists};
 ghost use Rattle.dt_tree.specs.EmptyGroups.{IsLeastEmpty, empty_groups};
 ghost use Rattle.dt_tree.specs.Knots.{alone, entry_at, AreParted, IsKnot, IsParted, IsFirstKnot, IsFirstKnotIn};
 ghost use Rattle.dt_tree.specs.Knots.{HaveOneWord, IsWhole};
-ghost use Rattle.dt_tree.specs.Verdicts.{Verdict, IsVerdict};
 
 /// Two knots that share an entry form a knot together, where a pattern is below that entry.
 pub fn law_knots_join()
@@ -57,17 +53,4 @@ pub fn law_one_match()
 pub fn law_whole_knots()
     ensures { (width : ℕ) (ps : List FlatPattern) (places : List ℕ) → All (IsWhole width) ps
         → IsKnot (map alone ps) places ↔ HaveOneWord ps places }
-{}
-
-/// The entries of a model of files are those of the files.
-pub fn law_model_entries()
-    ensures { (options : Options) (texts : List (List ℕ)) (model : Model) → IsModelOf options texts model
-        → items_of model.entries ≡ entries_in_files options texts }
-{}
-
-/// Files have exactly one verdict.
-pub fn law_one_verdict()
-    ensures one { (options : Options) (texts : List (List ℕ)) (one other : Verdict) → IsVerdict options texts one
-        → IsVerdict options texts other → one ≡ other }
-    ensures some { (options : Options) (texts : List (List ℕ)) → (verdict : Verdict) × IsVerdict options texts verdict }
 {}

@@ -1,9 +1,9 @@
 //! The first knot of one exclusive list.
 
 ghost use Rattle.std.specs.Prelude.{◌≡◌, ◌<◌, ◌++◌, ◌∷◌, [], List, length, map, All, IfOk};
-ghost use Rattle.dt_forms.specs.View.{pattern_seen};
-ghost use Rattle.dt_scope.specs.Patterns.{FlatPattern, position_of};
-ghost use Rattle.dt_scope.specs.Trees.{Items, item_of, items_of};
+ghost use Rattle.dt_model.specs.View.{pattern_seen};
+ghost use Rattle.dt_model.specs.Patterns.{FlatPattern, position_of};
+ghost use Rattle.dt_model.specs.Trees.{Items, item_of, items_of};
 ghost use Rattle.dt_tree.specs.Answers.{AreFilled, IsAnswerIn, begins_first, shown_of};
 ghost use Rattle.dt_tree.specs.Commons.{AreFixedSoFar};
 ghost use Rattle.dt_tree.specs.Entries.{entry_position, pattern_at, position_in};
@@ -12,8 +12,8 @@ ghost use Rattle.dt_tree.specs.Splits.{fixed_seen};
 use crate::common::fixed_by;
 use crate::fixed::FixedBits;
 use crate::split::knot_of;
-use dt_forms::{Entry, Pattern};
 use dt_lines::Position;
+use dt_model::{Entry, Pattern};
 use std::alloc::{AllocError, Global};
 
 // What each entry fixes.

@@ -1,16 +1,16 @@
 //! The decision tree of a model.
 
 ghost use Rattle.std.specs.Prelude.{map, AllPairs, IfErr, OnOk};
-ghost use Rattle.dt_scope.specs.Trees.{items_of};
-ghost use Rattle.dt_forms.specs.Sound.{IsEarlier, positions_of};
-ghost use Rattle.dt_forms.specs.View.{pattern_seen};
+ghost use Rattle.dt_model.specs.Trees.{items_of};
+ghost use Rattle.dt_model.specs.Sound.{IsEarlier, positions_of};
+ghost use Rattle.dt_model.specs.View.{pattern_seen};
 ghost use Rattle.dt_tree.specs.Entries.{AreInOrder, patterns_of};
 ghost use Rattle.dt_tree.specs.Refusals.{KeepGroupRules, HasCause, IsRefused};
 
 use crate::empty::first_empty;
 use crate::fault::{PositionList, TreeFault};
 use crate::first::first_of_list;
-use dt_forms::{Entry, Model, Pattern};
+use dt_model::{Entry, Model, Pattern};
 use std::alloc::Global;
 
 /// The tree of a model. It keeps nothing yet: that there is one says that its entries are told apart.

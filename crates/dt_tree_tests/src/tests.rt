@@ -1,10 +1,10 @@
 //! Trees of models that are built by hand.
 
-use dt_forms::{
+use dt_lines::Position;
+use dt_model::{
     Entry, EntryList, FormatList, Group, MOST_PATTERNS, Model, Pattern, PatternList, SetList,
     ValueList,
 };
-use dt_lines::Position;
 use dt_tree::{PositionList, Tree, TreeFault};
 use dt_values::{Name, Width};
 use std::alloc::{AllocError, Global};

@@ -5,3 +5,5 @@ pub mod BitFields
 pub mod Stored
 pub mod Ranges
 pub mod Held
+pub mod Members
+pub mod SetsByName

@@ -7,7 +7,7 @@ use Rattle.std.specs.Option.{option_or}
 use Rattle.std.proofs.lemmas.Bool.Decides.{nat_tests}
 use Rattle.std.proofs.lemmas.List.{get_or-replicate, length-replicate}
 use Rattle.std.proofs.lemmas.Option.{slice_get-get_or}
-use Rattle.dt_scope.specs.Options.{default_options}
+use Rattle.dt_model.specs.Options.{default_options}
 use Rattle.dt_words.specs.Rows.{Row, options_of, operands_of}
 use Rattle.dt_words.specs.Roles.{Role, Ends, Operand, Operands, roles_of}
 use Rattle.dt_words.specs.Values.{option_name, width_of}
@@ -17,7 +17,7 @@ use Rattle.dt_words.specs.Operands.{operands}
 use Rattle.dt_words.specs.Commands.{command_from, command_of, is_first, or_default, unless_faulty, unless_missing}
 use Rattle.dt_words.specs.declared.command.Command.{Command}
 use Rattle.dt_words.specs.declared.command.Command.TheVariants as command
-use Rattle.dt_words.specs.declared.rows.TheConstants.{MOST_FILES}
+use Rattle.dt_model.specs.declared.limits.TheConstants.{MOST_FILES}
 use Rattle.dt_words.specs.declared.rows.ValueKind.TheVariants as kind
 use Rattle.dt_words.specs.declared.rows.Verb.TheVariants as verb
 use Rattle.dt_words.specs.declared.usage.Usage.TheVariants as usage

@@ -5,7 +5,7 @@ use Rattle.std.specs.Prelude.{codes}
 use Rattle.std.specs.List.{list_all}
 use Rattle.std.specs.Option.{option_map}
 use Rattle.dt_values.specs.Types.{is_text}
-use Rattle.dt_match.specs.declared.script.Answer.{Answer}
+use Rattle.dt_host.specs.declared.script.Answer.{Answer}
 use Rattle.dt_words.specs.Scripts.{all_read, answers_in, item_of, item_texts, lists_of, outcomes_in, script_of, with_first}
 use Rattle.dt_words.specs.declared.script.Item.{Item}
 use Rattle.dt_words.specs.declared.script.Item.TheVariants as item

@@ -1,8 +1,8 @@
 -- What the command words say: a command, or what is wrong with which word.
 use Rattle.std.specs.Prelude.{ℕ, ◌≤◌, Bool, true, false, nat_lt, List, [], ◌∷◌, length, Option, Some, None, is_none, get_or}
 use Rattle.std.specs.Prelude.{◌≡◌, ◌<◌, slice_index, Result, Ok, Err, codes, if◌then◌else◌}
-use Rattle.dt_scope.specs.Options.{IsOptions, default_options}
-use Rattle.dt_scope.specs.declared.options.Options.{Options}
+use Rattle.dt_model.specs.Options.{IsOptions, default_options}
+use Rattle.dt_model.specs.declared.options.Options.{Options}
 use Rattle.dt_words.specs.Rows.{verb_of, options_of, least_operands}
 use Rattle.dt_words.specs.Roles.{Role, Anything, roles_of}
 use Rattle.dt_words.specs.Values.{option_name, width_of}
@@ -13,7 +13,7 @@ use Rattle.dt_words.specs.Operands.{operands, operand_at, operand_places}
 use Rattle.dt_words.specs.Scripts.{answers_in, outcomes_in, script_of}
 use Rattle.dt_words.specs.declared.command.Command.{Command}
 use Rattle.dt_words.specs.declared.command.Command.TheVariants as command
-use Rattle.dt_words.specs.declared.rows.TheConstants.{MOST_FILES}
+use Rattle.dt_model.specs.declared.limits.TheConstants.{MOST_FILES}
 use Rattle.dt_words.specs.declared.script.Item.{Item}
 use Rattle.dt_words.specs.declared.rows.Verb.{Verb}
 use Rattle.dt_words.specs.declared.rows.Verb.TheVariants as verb

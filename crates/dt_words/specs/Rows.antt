@@ -2,7 +2,7 @@
 -- The words are this project's; the options of `gen` that scripts/decodetree.py has too are named as there.
 use Rattle.std.specs.Prelude.{ℕ, List, [], ◌∷◌, Option, Some, None, codes, replicate, if◌then◌else◌}
 use Rattle.dt_values.specs.Types.{is_text}
-use Rattle.dt_words.specs.declared.rows.TheConstants.{MOST_FILES}
+use Rattle.dt_model.specs.declared.limits.TheConstants.{MOST_FILES}
 use Rattle.dt_words.specs.declared.rows.Verb.{Verb}
 use Rattle.dt_words.specs.declared.rows.Verb.TheVariants as verb
 use Rattle.dt_words.specs.declared.rows.ValueKind.{ValueKind}

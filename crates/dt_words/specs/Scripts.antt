@@ -4,7 +4,7 @@ use Rattle.std.specs.Prelude.{map, filter_map, Option, Some, None, option_map, â
 use Rattle.std.specs.List.{list_all, slice_split}
 use Rattle.dt_values.specs.Types.{is_text}
 use Rattle.dt_values.specs.Names.{is_name}
-use Rattle.dt_match.specs.declared.script.Answer.{Answer}
+use Rattle.dt_host.specs.declared.script.Answer.{Answer}
 use Rattle.dt_words.specs.Numbers.{is_digit, number_of, value}
 use Rattle.dt_words.specs.declared.script.Item.{Item}
 use Rattle.dt_words.specs.declared.script.Item.TheVariants as item

@@ -5,7 +5,7 @@ use Rattle.dt_values.specs.Names.{is_name_byte}
 use Rattle.dt_values.specs.declared.width.Width.{Width}
 use Rattle.dt_values.specs.declared.width.Width.TheVariants as width
 use Rattle.dt_fields.specs.CNames.{is_keyword}
-use Rattle.dt_scope.specs.Options.{begins_as_name}
+use Rattle.dt_model.specs.Options.{begins_as_name}
 use Rattle.dt_words.specs.declared.names.TheConstants.{LONGEST_OPTION_NAME}
 use Rattle.dt_words.specs.Numbers.{number_of}
 use Rattle.dt_words.specs.Scripts.{script_of}

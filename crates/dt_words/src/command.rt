@@ -1,7 +1,7 @@
 //! What the words ask for.
 
-use dt_match::Answer;
-use dt_scope::Options;
+use dt_host::Answer;
+use dt_model::Options;
 use dt_values::Items;
 use std::marker::Model;
 

@@ -2,11 +2,11 @@
 
 ghost use Rattle.std.specs.Prelude.{◌≡◌, ◌≤◌, ℕ, List, [], ◌∷◌, ◌++◌, Ok, Err, Some, None, true, false, pos, negsuc, codes, length};
 ghost use Rattle.std.specs.Option.{option_or};
-ghost use Rattle.dt_scope.specs.Options.{default_options};
+ghost use Rattle.dt_model.specs.Options.{default_options};
 ghost use Rattle.dt_words.specs.Commands.{command_of};
 ghost use Rattle.dt_words.specs.Roles.{Role};
 ghost use Rattle.dt_words.specs.Settings.{last_setting, setting_in};
-ghost use Rattle.dt_words.specs.declared.rows.TheConstants.{MOST_FILES};
+ghost use Rattle.dt_model.specs.declared.limits.TheConstants.{MOST_FILES};
 
 use crate::command::Command;
 use crate::usage::Usage;

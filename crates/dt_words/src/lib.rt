@@ -17,7 +17,7 @@ pub mod usage;
 pub mod values;
 
 pub use command::{AnswerList, Command, OutcomeList, Text, TextList};
+pub use dt_model::MOST_FILES;
 pub use print::printed_word;
 pub use read::{WordFault, read_words};
-pub use rows::MOST_FILES;
 pub use usage::Usage;

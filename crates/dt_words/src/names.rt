@@ -3,7 +3,7 @@
 ghost use Rattle.std.specs.Prelude.{◌≡◌, IfSome};
 ghost use Rattle.std.specs.List.{list_all};
 ghost use Rattle.dt_values.specs.Names.{is_name_byte};
-ghost use Rattle.dt_scope.specs.Options.{IsOptionName, begins_as_name};
+ghost use Rattle.dt_model.specs.Options.{IsOptionName, begins_as_name};
 ghost use Rattle.dt_words.specs.Values.{is_option_name, option_name};
 
 use dt_fields::number::is_keyword;

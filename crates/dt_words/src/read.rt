@@ -1,7 +1,7 @@
 //! From words to a command.
 
 ghost use Rattle.std.specs.Prelude.{◌≡◌, ◌+◌, ◌≤◌, [], Some, Ok, map, length, is_none, IfOk};
-ghost use Rattle.dt_scope.specs.Options.{IsOptionName, IsOptions};
+ghost use Rattle.dt_model.specs.Options.{IsOptionName, IsOptions};
 ghost use Rattle.dt_words.specs.Commands as meant;
 ghost use Rattle.dt_words.specs.Operands.{operands};
 ghost use Rattle.dt_words.specs.Numbers.{number_of};
@@ -22,7 +22,7 @@ use crate::script::{no_items, script_of};
 use crate::settings::{is_set, last_setting, last_value};
 use crate::usage::Usage;
 use crate::values::width_of;
-use dt_scope::Options;
+use dt_model::Options;
 use dt_values::{Name, Width};
 use std::alloc::{AllocError, Global};
 

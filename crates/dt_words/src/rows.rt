@@ -4,8 +4,7 @@ ghost use Rattle.std.specs.Prelude.{◌≡◌, map};
 ghost use Rattle.dt_words.specs.Rows.{least_operands, operands_of, options_of, verb_of};
 ghost use Rattle.dt_words.specs.View.{row_seen};
 
-/// The most pattern files that a command takes.
-pub const MOST_FILES: usize = 16;
+use dt_model::MOST_FILES;
 
 /// A command by its name.
 #[derive(Clone, Copy)]

@@ -6,7 +6,7 @@ ghost use Rattle.dt_words.specs.Scripts as meant;
 
 use crate::command::{AnswerList, OutcomeList};
 use crate::numbers::{number_in, number_of};
-use dt_match::Answer;
+use dt_host::Answer;
 use dt_values::Name;
 use std::alloc::{AllocError, Global};
 

@@ -1,7 +1,7 @@
 //! The words of `eval`: scripts and what they hold, and faulty words.
 
 use crate::words::words_of;
-use dt_match::Answer;
+use dt_host::Answer;
 use dt_words::{Command, Usage, WordFault, read_words};
 use std::alloc::{AllocError, Global};
 use std::process::Abort;

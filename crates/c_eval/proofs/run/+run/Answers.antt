@@ -1,13 +1,12 @@
 -- A statement of each kind, by its plain one, and a list of them.
 use Rattle.std.proofs.Common.{◌≡◌, ◌∙◌, sym, subst}
-use Rattle.c_exprs.specs.View.{term_of}
-use Rattle.c_subset.specs.Programs.{Stmt, switch, extract, assign, call}
+use Rattle.c_subset.specs.Programs.{Stmt, switch, call}
 use Rattle.c_subset.specs.View.{stmt_of, cases_of, stmts_of, program_of}
 use Rattle.c_eval.specs.Runs.{run_one, run_all, after_test}
-use Rattle.c_eval.specs.Turns.{Stands, Turned, tested}
+use Rattle.c_eval.specs.Turns.{Stands, Turned}
 use Rattle.c_eval.specs.declared.turn.Standing.{Standing as MadeStanding}
 use Rattle.c_eval.proofs.Going.{stands_tested, step_going}
-use Rattle.c_eval.proofs.StmtViews.{seen_switch, seen_extract, seen_assign, seen_call}
+use Rattle.c_eval.proofs.StmtViews.{seen_switch, seen_call}
 use Rattle.c_eval.proofs.run.+run.Goals as goal
 
 pub run_statement-returns-in-Switch-clause-turned : goal.run_statement-returns-in-Switch-clause-turned
@@ -21,7 +20,8 @@ run_statement-returns-in-Switch-clause-turned g t c r h =
     let counted : Stands p o (after_test r) c.tested-in-Switch.result state =
     subst (λ (m : MadeStanding). Stands p o (after_test r) m state) (sym c.tested-in-Switch.ensures)
     (stands_tested p o r c.args.standing state h) in
-    subst (λ (s : Stmt). Turned p o (run_one p o host c.args.setting.now.word s r) c.run_first.result (g.H.Host.state c.run_first.new.host)) (sym e)
+    subst (λ (s : Stmt). Turned p o (run_one p o host c.args.setting.now.word s r) c.run_first.result
+    (g.H.Host.state c.run_first.new.host)) (sym e)
     (c.run_first.ensures.turned (after_test r) counted)
 
 pub run_statement-returns-in-Call-clause-turned : goal.run_statement-returns-in-Call-clause-turned
@@ -30,7 +30,8 @@ run_statement-returns-in-Call-clause-turned g t c r h =
     let o = c.args.setting.now.outside.now in
     let host = g.H.Host.host c.args.host.now in
     let e : stmt_of c.args.statement.now ≡ call c.in-Call.pattern c.in-Call.set = seen_call c.in-Call.is in
-    subst (λ (s : Stmt). Turned p o (run_one p o host c.args.setting.now.word s r) c.call.result (g.H.Host.state c.call.new.host)) (sym e)
+    subst (λ (s : Stmt). Turned p o (run_one p o host c.args.setting.now.word s r) c.call.result
+    (g.H.Host.state c.call.new.host)) (sym e)
     (c.call.ensures.turned r h)
 
 pub run_statements-loop-statement-preserved : goal.run_statements-loop-statement-preserved

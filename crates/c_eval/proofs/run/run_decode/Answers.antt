@@ -14,7 +14,8 @@ returns-in-Going-clause-tests g c few =
     let state = g.H.Host.state c.args.host.now in
     let next = g.H.Host.state c.run_statements.new.host in
     let turned =
-    subst (λ ss. Turned p o (run_all p o host c.args.word (stmts_of ss) (at_start state)) c.run_statements.result next) c.items.ensures
+    subst (λ ss. Turned p o (run_all p o host c.args.word (stmts_of ss) (at_start state)) c.run_statements.result next)
+    c.items.ensures
     (c.run_statements.ensures.turned (at_start state) (starts p o host c.args.word state _ refl)) in
     tests_going p o host c.args.word state c.run_statements.result c.in-Going.standing next c.in-Going.is turned few
 
@@ -26,7 +27,8 @@ returns-in-Ended-clause-tests g c few =
     let state = g.H.Host.state c.args.host.now in
     let next = g.H.Host.state c.run_statements.new.host in
     let turned =
-    subst (λ ss. Turned p o (run_all p o host c.args.word (stmts_of ss) (at_start state)) c.run_statements.result next) c.items.ensures
+    subst (λ ss. Turned p o (run_all p o host c.args.word (stmts_of ss) (at_start state)) c.run_statements.result next)
+    c.items.ensures
     (c.run_statements.ensures.turned (at_start state) (starts p o host c.args.word state _ refl)) in
     tests_ended p o host c.args.word state c.run_statements.result c.in-Ended.ended c.in-Ended.standing next
     c.in-Ended.is turned few

@@ -35,5 +35,6 @@ returns-clause-held g c =
     let live = c.loop-name.live in
     let ms = c.args.members.now in
     let past : length c.args.assigns.now ≤ c.loop-name.name-index = search rules in
-    sym (none_left (helper_bits c.args.width) c.args.word answer ms c.args.assigns.now c.loop-name.name-index (held_in ms live.items live.held) past)
+    sym (none_left (helper_bits c.args.width) c.args.word answer ms c.args.assigns.now c.loop-name.name-index
+    (held_in ms live.items live.held) past)
     ∙ c.loop-name.invariant.same

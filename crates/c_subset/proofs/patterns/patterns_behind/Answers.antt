@@ -5,7 +5,7 @@ use Rattle.c_subset.specs.Programs.{Pattern}
 use Rattle.c_subset.specs.View.{pattern_of, prefix_seen}
 use Rattle.c_subset.specs.PatternParsing.{starts_pattern, pattern_at}
 use Rattle.c_subset.proofs.PatternsRead.{pattern_shorter}
-use Rattle.c_subset.proofs.ReadLoops.{ReadingBehind, behind_start, behind_more, behind_last, behind_fails}
+use Rattle.c_subset.proofs.ReadLoops.{ReadingBehind, behind_more, behind_last, behind_fails}
 use Rattle.c_subset.proofs.patterns.patterns_behind.Goals as goal
 
 pub returns-in_err-pattern_at : goal.returns-in_err-pattern_at

@@ -1,5 +1,5 @@
-use Rattle.dt_fields.specs.declared.set.SetDef.{SetDef}
-use Rattle.c_writer.specs.Layout.{union_set_line}
+use Rattle.dt_values.specs.declared.set.SetDef.{SetDef}
+use Rattle.c_print.specs.Lines.{union_set_line}
 use Rattle.c_writer.specs.Uses.{is_among}
 use Rattle.c_writer.proofs.Choosing.{puts_passing}
 use Rattle.c_writer.proofs.statements.write_union_sets.Goals as goal

@@ -17,7 +17,8 @@ returns-in-Ok c =
     let by_key = c.in-Ok.ensures.position (λ l. l.line) (answers_always _ _ _ (λ f a r g called. search rules)) in
     subst (IsSpanOf c.args.bytes.now c.leading_span.result)
     (ap (λ (ts : List Span). leading_token (map (text_at c.args.bytes.now) ts)) c.items.ensures
-    ∙ token_found c.args.bytes.now c.args.lines.now c.args.number c.in-Ok.at c.index-lines-at.result c.requires.in_order c.in-Ok.ensures.bound by_key)
+    ∙ token_found c.args.bytes.now c.args.lines.now c.args.number c.in-Ok.at c.index-lines-at.result c.requires.in_order
+    c.in-Ok.ensures.bound by_key)
     c.leading_span.ensures
 
 pub returns-in-Err : goal.returns-in-Err

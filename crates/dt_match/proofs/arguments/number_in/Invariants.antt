@@ -1,5 +1,5 @@
 use Rattle.std.proofs.Common.{◌≡◌, drop}
-use Rattle.dt_match.specs.Arguments.{given_in}
+use Rattle.dt_model.specs.SetOrder.{given_in}
 use Rattle.dt_match.specs.Readable.{AreReadable}
 use Rattle.dt_match.proofs.arguments.number_in.Given as goal
 

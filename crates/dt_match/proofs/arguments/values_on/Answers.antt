@@ -22,7 +22,9 @@ loop-level-preserved g c =
     let held = c.loop-level.values in
     record {
       members = c.next_values-next.ensures.members;
-      items = level_more answer c.args.word c.args.members.now (c.args.kept.now ++ c.args.own.now) c.requires.arguments c.loop-level._level held.members.now held.items c.next_values-next.result.items
+      items = level_more answer c.args.word c.args.members.now
+          (c.args.kept.now ++ c.args.own.now) c.requires.arguments c.loop-level._level held.members.now held.items
+          c.next_values-next.result.items
           c.loop-level.invariant.members c.loop-level.invariant.items c.next_values-next.ensures.items;
     }
 
@@ -30,9 +32,12 @@ pub returns-then-is_same-clause-items : goal.returns-then-is_same-clause-items
 returns-then-is_same-clause-items g c =
     let answer = (g.H.Host.host c.args.host.now).answer (g.H.Host.state c.args.host.now) in
     let held = c.loop-level.values in
-    let unchanged : c.next_values-next.result.items ≡ held.items = (slice_eq-Decides Decides-int_eq _ _ _ c.is_same.ensures).0 c.if-is_same.true in
+    let unchanged : c.next_values-next.result.items ≡ held.items =
+    (slice_eq-Decides Decides-int_eq _ _ _ c.is_same.ensures).0 c.if-is_same.true in
     let more = c.loop-level-test.true in
     let both = length-append c.args.kept.now c.args.own.now in
     let below : c.loop-level._level < length (c.args.kept.now ++ c.args.own.now) = omega arith in
-    last_level answer c.args.word c.args.members.now (c.args.kept.now ++ c.args.own.now) c.requires.arguments c.loop-level._level held.members.now held.items c.next_values-next.result.items
+    last_level answer c.args.word c.args.members.now
+    (c.args.kept.now ++ c.args.own.now) c.requires.arguments c.loop-level._level held.members.now held.items
+    c.next_values-next.result.items
     c.loop-level.invariant.members c.loop-level.invariant.items c.next_values-next.ensures.items unchanged below

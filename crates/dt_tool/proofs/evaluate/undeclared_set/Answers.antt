@@ -3,7 +3,7 @@ use Rattle.std.specs.Prelude.{find, nat_eq, not}
 use Rattle.std.specs.Cmp.Lexicographic.{pointwise}
 use Rattle.std.specs.HashSet as bag
 use Rattle.std.specs.List.{list_any}
-use Rattle.dt_fields.specs.declared.set.SetDef.{SetDef}
+use Rattle.dt_values.specs.declared.set.SetDef.{SetDef}
 use Rattle.dt_tool.proofs.Evaluating.{first_undeclared_found}
 use Rattle.dt_tool.proofs.evaluate.undeclared_set.Goals as goal
 

@@ -1,8 +1,8 @@
 use Rattle.std.proofs.Common.{◌≡◌, ℕ, List, [], ◌++◌, flat_map, map, ap, subst, ◌∙◌}
 use Rattle.dt_text.specs.Puts.{Puts}
 use Rattle.dt_text.proofs.Putting.{puts_more}
-use Rattle.dt_match.specs.Scripts.{ScriptMemory, kept_call, plain_script}
-use Rattle.dt_match.specs.declared.script.Call.{Call}
+use Rattle.dt_host.specs.Scripts.{ScriptMemory, kept_call, plain_script}
+use Rattle.dt_host.specs.declared.script.Call.{Call}
 use Rattle.c_subset.specs.Programs.{Program}
 use Rattle.c_subset.specs.View.{program_of}
 use Rattle.c_eval.specs.Runs.{Run, run_of}

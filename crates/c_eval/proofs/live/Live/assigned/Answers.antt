@@ -5,18 +5,18 @@ use mir.Syntax.{w128}
 use mir.Val.{SFits, to_z, of_z}
 use Rattle.std.proofs.lemmas.Int.{to_z-of_z}
 use Rattle.std.proofs.lemmas.Option.{slice_get_read}
-use Rattle.dt_values.specs.declared.ctype.Member.{Member}
 use Rattle.dt_values.specs.Stored.{stored}
 use Rattle.c_eval.specs.Runs.{put}
-use Rattle.c_eval.specs.LiveSet.{held_in}
-use Rattle.c_eval.specs.LiveSet.{place_in}
+use Rattle.c_eval.specs.LiveSet.{held_in, place_in}
 use Rattle.c_eval.proofs.Slots.{placed, not_placed, assign_some}
 use Rattle.c_eval.proofs.live.Live.assigned.Goals as goal
 
 pub returns-in_default-clause-held : goal.returns-in_default-clause-held
 returns-in_default-clause-held c =
     let none : place_in c.args.members.now c.args.name ≡ None = sym c.place_in.ensures ∙ c.in_default.is in
-    sym (ap (option_map (λ t. put c.args.name (stored t c.args.number) (held_in c.args.members.now c.args.self.now.items c.args.self.now.held))) (not_placed c.args.members.now c.args.name none))
+    sym (ap (option_map (λ t. put c.args.name (stored t c.args.number)
+    (held_in c.args.members.now c.args.self.now.items c.args.self.now.held)))
+    (not_placed c.args.members.now c.args.name none))
 
 pub offset_bounds-items-place : goal.offset_bounds-items-place
 offset_bounds-items-place c =

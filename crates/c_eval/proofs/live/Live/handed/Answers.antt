@@ -12,7 +12,8 @@ returns-then-not-self-i c =
     let bits : length l.held ≡ 32 = search rules in
     let at_items : length ms ≤ length l.items = omega arith in
     let at_held : length ms ≤ length l.held = omega arith in
-    sym (handed_none ms l.items l.held c.requires.differ at_items at_held c.loop-i.i c.loop-i-test.true c.if-not-self-i.true)
+    sym (handed_none ms l.items l.held c.requires.differ at_items at_held c.loop-i.i c.loop-i-test.true
+    c.if-not-self-i.true)
 
 pub returns : goal.returns
 returns c =
@@ -28,4 +29,5 @@ returns c =
     let at_out : length ms ≤ length vs.items = omega arith in
     let past : length ms ≤ c.loop-i.i = search rules in
     ap (λ xs. Some (take (length xs) vs.items)) c.stored.ensures.members
-    ∙ sym (handed_all ms l.items l.held c.requires.differ at_items at_held vs.items at_out c.stored.ensures.items (λ k h. c.loop-i.invariant k (omega arith)))
+    ∙ sym (handed_all ms l.items l.held c.requires.differ at_items at_held vs.items at_out c.stored.ensures.items
+    (λ k h. c.loop-i.invariant k (omega arith)))

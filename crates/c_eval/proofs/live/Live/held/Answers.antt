@@ -22,7 +22,8 @@ returns-then-self-i c =
     let z = get_or l.items i (pos 0) in
     let fits : SFits w128 c.store.result = search rules in
     let number_fits : SFits w128 z = search rules in
-    ap (λ x. Some x) (to_z-of_z w128 c.store.result fits ∙ c.store.ensures ∙ ap (stored m.ctype) (to_z-of_z w128 z number_fits))
+    ap (λ x. Some x) (to_z-of_z w128 c.store.result fits ∙ c.store.ensures
+    ∙ ap (stored m.ctype) (to_z-of_z w128 z number_fits))
     ∙ ap (λ b. unless_lost b (stored m.ctype z)) (sym c.if-self-i.true)
     ∙ held_here ms l.items l.held c.args.name i m inside at_items at_held c.index-members-i.is (search rules)
     ∙ c.loop-i.invariant

@@ -1,6 +1,6 @@
 use Rattle.std.proofs.Common.{◌∙◌, ap}
-use Rattle.dt_fields.specs.SetsByName.{place_of_set}
-use Rattle.dt_fields.specs.declared.set.SetDef.{SetDef}
+use Rattle.dt_values.specs.SetsByName.{place_of_set}
+use Rattle.dt_values.specs.declared.set.SetDef.{SetDef}
 use Rattle.dt_fields.proofs.Keyed.{place_keyed}
 use Rattle.dt_fields.proofs.sets.Sets.place.Goals as goal
 

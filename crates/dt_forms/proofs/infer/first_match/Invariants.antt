@@ -1,7 +1,0 @@
-use Rattle.std.proofs.Common.{◌≡◌, ◌<◌, ℕ, false, get_or}
-use Rattle.dt_fields.specs.declared.set.SetDef.{SetDef}
-use Rattle.dt_forms.specs.Inference.{has_exactly}
-use Rattle.dt_forms.proofs.infer.first_match.Given as goal
-
-abbrev pub invariant-loop-place : goal.invariant-loop-place
-invariant-loop-place l = (d : SetDef) (k : ℕ) → k < l.place → has_exactly l.values (get_or l.sets k d) ≡ false

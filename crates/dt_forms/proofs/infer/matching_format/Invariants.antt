@@ -1,8 +1,0 @@
-use Rattle.std.proofs.Common.{◌≡◌, ◌<◌, ℕ, false, get_or}
-use Rattle.dt_values.specs.Widths.{width_bits}
-use Rattle.dt_scope.specs.declared.form.Format.{Format}
-use Rattle.dt_forms.specs.Inference.{fits_pattern}
-use Rattle.dt_forms.proofs.infer.matching_format.Given as goal
-
-abbrev pub invariant-loop-place : goal.invariant-loop-place
-invariant-loop-place l = (d : Format) (k : ℕ) → k < l.place → fits_pattern (width_bits l.width) l.set l.values (get_or l.formats k d) ≡ false

@@ -1,5 +1,0 @@
-use Rattle.std.proofs.Common.{length}
-use Rattle.dt_forms.proofs.line_bits.+values_mask.Given as goal
-
-abbrev pub decreases-values_mask : goal.decreases-values_mask
-decreases-values_mask l = length l.values.now

@@ -1,0 +1,2 @@
+pub mod AlikeHosts
+pub mod ScriptCalls

@@ -1,0 +1,5 @@
+pub mod Hosts
+pub mod Calls
+pub mod Alike
+pub mod Scripts
+pub mod Examples

@@ -1,0 +1,5 @@
+//! Tests of dt_host.
+#![tactic(auto)]
+
+#[cfg(test)]
+mod scripts;

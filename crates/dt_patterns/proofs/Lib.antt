@@ -1,0 +1,14 @@
+pub mod OtherSets
+pub mod SetNumbers
+pub mod Shares
+pub mod NewArguments
+pub mod NumberedNames
+pub mod SameNames
+pub mod SameFields
+pub mod LineValues
+pub mod Arguments
+pub mod TakenFields
+pub mod JoinedMasks
+pub mod Unbroken
+pub mod Additions
+pub mod SoundBits
